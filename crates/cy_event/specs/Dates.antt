@@ -31,24 +31,25 @@ year_and_days days = count_off days_in_year (days / 365) 1970 days
 abbrev pub month_and_days : ℕ → ℕ → ℕ × ℕ
 month_and_days year days = count_off (days_in_month year) (days / 28) 1 days
 
--- a name of three letters out of a list
-abbrev pub name_at : List (List ℕ) → ℕ → List ℕ
-name_at names n = slice_index_or names n []
+-- the first three letters of each day of the week
+abbrev pub day_names : List (List ℕ)
+day_names =
+    codes "Mon" ∷ codes "Tue" ∷ codes "Wed" ∷ codes "Thu" ∷ codes "Fri" ∷ codes "Sat"
+    ∷ codes "Sun" ∷ []
+
+-- the first three letters of each month
+abbrev pub month_names : List (List ℕ)
+month_names =
+    codes "Jan" ∷ codes "Feb" ∷ codes "Mar" ∷ codes "Apr" ∷ codes "May" ∷ codes "Jun"
+    ∷ codes "Jul" ∷ codes "Aug" ∷ codes "Sep" ∷ codes "Oct" ∷ codes "Nov" ∷ codes "Dec" ∷ []
 
 -- the name of the day that is so many days after a Thursday
 abbrev pub day_name : ℕ → List ℕ
-day_name days =
-    name_at
-    (codes "Mon" ∷ codes "Tue" ∷ codes "Wed" ∷ codes "Thu" ∷ codes "Fri" ∷ codes "Sat"
-    ∷ codes "Sun" ∷ []) ((days + 3) % 7)
+day_name days = slice_index_or day_names ((days + 3) % 7) []
 
 -- the name of a month, January being 1
 abbrev pub month_name : ℕ → List ℕ
-month_name month =
-    name_at
-    (codes "Jan" ∷ codes "Feb" ∷ codes "Mar" ∷ codes "Apr" ∷ codes "May" ∷ codes "Jun"
-    ∷ codes "Jul" ∷ codes "Aug" ∷ codes "Sep" ∷ codes "Oct" ∷ codes "Nov" ∷ codes "Dec" ∷ [])
-    (month - 1)
+month_name month = slice_index_or month_names (month - 1) []
 
 -- a number below 100, in two digits
 abbrev pub two_digits : ℕ → List ℕ

@@ -1,0 +1,5 @@
+pub mod Items
+pub mod Texts
+pub mod Quoted
+pub mod Loop
+pub mod Answered

@@ -1,0 +1,4 @@
+pub mod Causes
+pub mod Reads
+pub mod Writes
+pub mod Memory

@@ -1,0 +1,5 @@
+use Rattle.cy_model.proofs.Settlings.{settled-rests}
+use Rattle.cy_model.proofs.laws.settling_rests.Goals as goal
+
+pub returns : goal.returns
+returns c = settled-rests

@@ -1,0 +1,12 @@
+pub mod Marks
+pub mod Folds
+pub mod Repeat
+pub mod Settling
+pub mod Jobs
+pub mod Entries
+pub mod Runs
+pub mod Connections
+pub mod Steps
+pub mod Reports
+pub mod Laws
+pub mod DateText

@@ -1,0 +1,58 @@
+-- What is remembered of a connection: a list of marks that only grows, the newest first, each with its moment.
+use Rattle.std.specs.Prelude.{ℕ, Bool, List, Option}
+use Rattle.cy_event.specs.declared.steps.Act.{Act}
+use Rattle.cy_event.specs.declared.steps.Call.{Call}
+use Rattle.cy_event.specs.declared.steps.CloseCause.{CloseCause}
+use Rattle.cy_event.specs.declared.steps.Job.{Job}
+use Rattle.cy_event.specs.Heads.{Head}
+
+-- what is settled as a head is taken up
+pub record Taken : Type 0 where
+  -- where it begins in the bytes that came, and how long it is with its empty line
+  pub place : ℕ
+  pub size : ℕ
+  pub head : Head
+  -- the component that serves it, and whether it may process asynchronously
+  pub part : ℕ
+  pub can_async : Bool
+
+-- what a parked callback waits for
+pub data Side : Type 0 where
+  input_side : Side
+  output_side : Side
+
+pub data Mark : Type 0 where
+  -- the connection was admitted; its input has ended
+  opened : Mark
+  ended : Mark
+  -- these bytes came; the socket took so many
+  came : List ℕ → Mark
+  sent : ℕ → Mark
+  -- a head was taken up; one was refused with a status
+  began : Taken → Mark
+  refused : ℕ → Mark
+  -- an accepted call of the state table; a dispatch may name a component
+  called : Call → Option ℕ → Mark
+  -- a callback began, was parked, is over
+  started : Job → Mark
+  parked : Side → Mark
+  back : Mark
+  -- so much content was delivered; its end was told
+  given : ℕ → Mark
+  end_given : Mark
+  -- any other accepted act
+  did : Act → Mark
+  -- content was accepted; a flush that had something to cut
+  put : List ℕ → Mark
+  flushed : Mark
+  -- an error answer of this status was put in place; the answer was broken off
+  failed : ℕ → Mark
+  aborted : Mark
+  -- the request has ended
+  over : Mark
+  -- a cause to close was set; the connection was broken
+  caused : CloseCause → Mark
+  broken : Mark
+
+abbrev pub Trace : Type 0
+Trace = List (ℕ × Mark)

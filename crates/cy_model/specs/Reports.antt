@@ -1,0 +1,123 @@
+-- The report of a run: a line for each step, and then lines for each connection.
+use Rattle.std.specs.Prelude.{ℕ, ◌+◌, List, [], ◌∷◌, ◌++◌, length, reverse, flat_map, Option, Some, None, codes, decimal, nat_lt, if◌then◌else◌}
+use Rattle.cy_bytes.specs.Quoting.{quoted}
+use Rattle.cy_event.specs.declared.limits.Limits.{Limits}
+use Rattle.cy_event.specs.declared.steps.Call.{Call}
+use Rattle.cy_event.specs.declared.steps.Call.TheVariants as call
+use Rattle.cy_event.specs.declared.steps.CloseCause.{CloseCause}
+use Rattle.cy_event.specs.declared.steps.CloseCause.TheVariants as cause
+use Rattle.cy_event.specs.declared.steps.Job.{Job}
+use Rattle.cy_event.specs.declared.steps.Job.TheVariants as job
+use Rattle.cy_event.specs.declared.steps.Reply.{Reply}
+use Rattle.cy_event.specs.declared.steps.Reply.TheVariants as reply
+use Rattle.cy_event.specs.declared.steps.Step.{Step}
+use Rattle.cy_event.specs.Mapping.{Rule}
+use Rattle.cy_model.specs.Connections.{History, connections, replies}
+use Rattle.cy_model.specs.Entries.{trace_of}
+use Rattle.cy_model.specs.Folds.{cause_of, charts, output, took}
+use Rattle.cy_model.specs.Marks.{Trace}
+
+abbrev pub line_end : List ℕ
+line_end = codes "\n"
+
+-- ---- replies
+
+abbrev pub job_text : Job → List ℕ
+job_text (job.Service part) = codes "service " ++ decimal part
+
+unfoldable pub reply_text : Reply → List ℕ
+reply_text reply.Done = codes "Done"
+reply_text reply.Entered = codes "Entered"
+reply_text (reply.Full n) = codes "Full " ++ decimal n
+reply_text (reply.Taken n) = codes "Taken " ++ decimal n
+reply_text reply.Again = codes "Again"
+reply_text (reply.Begun j) = codes "Begun " ++ job_text j
+reply_text reply.Idle = codes "Idle"
+reply_text reply.NotActive = codes "NotActive"
+reply_text reply.NoConn = codes "NoConn"
+
+-- the line of the step of this number
+unfoldable pub reply_line : ℕ → Reply → List ℕ
+reply_line number r = decimal number ++ codes " " ++ reply_text r ++ line_end
+
+-- the lines of steps that are numbered from here on
+abbrev pub reply_lines : ℕ → List Reply → List ℕ
+reply_lines number [] = []
+reply_lines number (r ∷ rs) = reply_line number r ++ reply_lines (number + 1) rs
+
+-- ---- connections
+
+abbrev pub cause_name : CloseCause → List ℕ
+cause_name cause.LastAnswer = codes "LastAnswer"
+cause_name cause.Refused = codes "Refused"
+cause_name cause.BadBody = codes "BadBody"
+cause_name cause.SwallowLimit = codes "SwallowLimit"
+cause_name cause.ShortAnswer = codes "ShortAnswer"
+cause_name cause.FailedAnswer = codes "FailedAnswer"
+cause_name cause.IdleTimeout = codes "IdleTimeout"
+cause_name cause.AwaitTimeout = codes "AwaitTimeout"
+cause_name cause.InputEnd = codes "InputEnd"
+cause_name cause.InFault = codes "InFault"
+cause_name cause.OutFault = codes "OutFault"
+cause_name cause.Shut = codes "Shut"
+
+-- a connection without a cause to close is open
+abbrev pub cause_text : Option CloseCause → List ℕ
+cause_text None = codes "open"
+cause_text (Some k) = cause_name k
+
+abbrev pub call_name : Call → List ℕ
+call_name call.Start = codes "Start"
+call_name call.CompleteOwn = codes "CompleteOwn"
+call_name call.CompleteOther = codes "CompleteOther"
+call_name call.DispatchOwn = codes "DispatchOwn"
+call_name call.DispatchOther = codes "DispatchOther"
+call_name call.Timeout = codes "Timeout"
+call_name call.Fault = codes "Fault"
+call_name call.Fail = codes "Fail"
+call_name call.Run = codes "Run"
+call_name call.Return = codes "Return"
+
+-- an item of a chart, with a space before it
+abbrev pub chart_item : Call → List ℕ
+chart_item k = codes " " ++ call_name k
+
+-- the chart of a request of a connection
+unfoldable pub chart_line : ℕ → ℕ → List Call → List ℕ
+chart_line conn request ks =
+    codes "chart " ++ decimal conn ++ codes " " ++ decimal request ++ flat_map chart_item ks ++ line_end
+
+-- the charts of requests that are numbered from here on
+abbrev pub chart_lines : ℕ → ℕ → List (List Call) → List ℕ
+chart_lines conn request [] = []
+chart_lines conn request (ks ∷ kss) = chart_line conn request ks ++ chart_lines conn (request + 1) kss
+
+-- What a connection came to: why it closes, how much its socket took of how much was written, all that was written,
+-- and the charts.
+unfoldable pub connection_text : ℕ → Option CloseCause → ℕ → List ℕ → List (List Call) → List ℕ
+connection_text conn why taken written kss =
+    codes "conn " ++ decimal conn ++ codes " " ++ cause_text why ++ codes " took " ++ decimal taken ++ codes " of "
+    ++ decimal (length written) ++ line_end ++ codes "out \"" ++ quoted written ++ codes "\"" ++ line_end
+    ++ chart_lines conn 1 kss
+
+abbrev pub trace_text : ℕ → Trace → List ℕ
+trace_text conn T = connection_text conn (cause_of T) (took T) (output T) (charts T)
+
+abbrev pub history_text : Limits → List Rule → History → List ℕ
+history_text limits rules h = trace_text h.number (trace_of limits rules h.entries)
+
+-- by rising number
+abbrev pub put_by_number : History → List History → List History
+put_by_number h [] = h ∷ []
+put_by_number h (g ∷ gs) = let rest = put_by_number h gs in if nat_lt h.number g.number then h ∷ g ∷ gs else g ∷ rest
+
+abbrev pub by_number : List History → List History
+by_number [] = []
+by_number (h ∷ hs) = put_by_number h (by_number hs)
+
+-- ---- the report of steps, the first first
+unfoldable pub report : Limits → List Rule → List Step → List ℕ
+report limits rules steps =
+    let w = reverse steps in
+    reply_lines 1 (replies limits rules w)
+    ++ flat_map (history_text limits rules) (by_number (connections limits rules w))

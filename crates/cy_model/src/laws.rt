@@ -1,0 +1,22 @@
+//! Laws of the definitions: a function without parameters and without a body has the law as its contract.
+ghost use Rattle.cy_model.specs.Laws.{ExampleIsReported, SettlingGoesOn, SettlingIsTwoWords, SettlingRests};
+
+/// No move applies to what is settled.
+pub fn settling_rests()
+    ensures { SettlingRests }
+{}
+
+/// Settling is unchanged by making its first move.
+pub fn settling_goes_on()
+    ensures { SettlingGoesOn }
+{}
+
+/// Resting and taking up heads, in turn, is settling.
+pub fn settling_is_two_words()
+    ensures { SettlingIsTwoWords }
+{}
+
+/// The worked example is reported as the README shows it.
+pub fn example_is_reported()
+    ensures { ExampleIsReported }
+{}
