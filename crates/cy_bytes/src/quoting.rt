@@ -1,10 +1,10 @@
 //! The text between the quotation marks of a quoted text.
 
-ghost use Rattle.std.specs.Prelude.{◌≡◌, ℕ, ◌++◌, ◌<◌, List, length, IfOk, IfSome, OnOk, Ok, Err, option_map};
+ghost use Rattle.std.specs.Prelude.{◌≡◌, ℕ, ◌++◌, ◌<◌, ◌↔◌, List, length, IsTrue, IfOk, IfSome, OnOk, Ok, Err, option_map};
 ghost use Rattle.std.specs.Char.{digit_char, digit_value};
 ghost use Rattle.std.specs.Option.{SomeIff};
 ghost use Rattle.cy_bytes.specs.QuoteFault.{Gives};
-ghost use Rattle.cy_bytes.specs.Quoting.{escaped, spelling_of, quoted, item_at, unquoted, IsSpelling, HasFirstFault};
+ghost use Rattle.cy_bytes.specs.Quoting.{StandsAsItself, escaped, spelling_of, quoted, item_at, unquoted, IsSpelling, HasFirstFault};
 ghost use Rattle.cy_bytes.specs.declared.fault.QuoteFault.TheVariants.{BadEscape};
 
 use crate::bytes::Bytes;
@@ -104,13 +104,19 @@ fn first_item(text: &[u8]) -> Option<(u8, &[u8])>
     ensures shorter { IfSome result (λ x. length x.1.now < length text.now) }
 {
     match text {
-        [byte @ (b' '..=b'!' | b'#'..=b'[' | b']'..=b'~'), rest @ ..] => Some((*byte, rest)),
+        [byte, rest @ ..] if stands_as_itself(*byte) => Some((*byte, rest)),
         [b'\\', b'x', high, low, rest @ ..] => {
             Some((hex_value(*high)? * 16 + hex_value(*low)?, rest))
         }
         [b'\\', letter, rest @ ..] => Some((escaped(*letter)?, rest)),
         _ => None,
     }
+}
+
+fn stands_as_itself(byte: u8) -> bool
+    ensures { IsTrue result ↔ StandsAsItself byte }
+{
+    matches!(byte, b' '..=b'~') && byte != b'\\' && byte != b'"'
 }
 
 /// The byte that a letter behind a backslash stands for.

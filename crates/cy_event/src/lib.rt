@@ -9,3 +9,6 @@ pub mod steps;
 pub use bytes::Bytes;
 pub use limits::{GREATEST_MOMENT, Limits};
 pub use steps::{Act, Call, CloseCause, Event, Job, Reply, State, Step};
+
+#[cfg(test)]
+mod tests;

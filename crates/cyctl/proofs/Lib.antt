@@ -1,0 +1,13 @@
+pub mod AnswerParts
+pub mod HeadFronts
+pub mod HeadGrowth
+pub mod HeadLaws
+pub mod HeadLines
+pub mod HeadReads
+pub mod HeadShortest
+pub mod OneWord
+pub mod Reported
+pub mod Represented
+pub mod Runs
+pub mod Statuses
+pub mod Streams

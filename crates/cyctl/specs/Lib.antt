@@ -1,0 +1,9 @@
+pub mod Answered
+pub mod Causes
+pub mod Connecting
+pub mod HeadGrammar
+pub mod PartChanges
+pub mod Parts
+pub mod Running
+pub mod Stages
+pub mod Tool

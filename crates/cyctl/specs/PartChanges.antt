@@ -1,0 +1,120 @@
+-- What each thing that happens does to the parts of a connection.
+use Rattle.std.specs.Prelude.{ℕ, ◌+◌, ◌-◌, min, Bool, true, false, ◌&&◌, not, nat_le, List, [], ◌∷◌, ◌++◌, length, drop, Option, Some, None, is_none, ◌==◌, if◌then◌else◌}
+use Rattle.cy_event.specs.declared.limits.Limits.{Limits}
+use Rattle.cy_event.specs.declared.steps.Call.TheVariants as call
+use Rattle.cy_event.specs.declared.steps.Job.{Job}
+use Rattle.cy_event.specs.declared.steps.Job.TheVariants as job
+use Rattle.cy_event.specs.declared.steps.State.TheVariants as state
+use Rattle.cy_event.specs.Answers.{fresh_answer, after_put, answer_text, silent, takes}
+use Rattle.cy_event.specs.Heads.{Front, awaited, found, malformed, head_of, is_plain}
+use Rattle.cy_event.specs.Table.{next_state}
+use Rattle.cy_model.specs.Entries.{input_buffer, input_total}
+use Rattle.cy_model.specs.Jobs.{job_in}
+use Rattle.cy_model.specs.Settling.{begin_bound}
+use Rattle.cyctl.specs.Parts.{Parts}
+
+-- as a connection opens
+abbrev pub opened_parts : Parts
+opened_parts = record {
+  unread = [];
+  came = 0;
+  is_open = false;
+  part = 0;
+  running = None;
+  is_served = false;
+  calls = [];
+  state = state.Dispatched;
+  answer = fresh_answer;
+  ended_charts = [];
+  output = [];
+  took = 0;
+  cause = None;
+  is_broken = false;
+}
+
+-- how many bytes may come
+abbrev pub room_in : Parts → ℕ
+room_in p = min (input_buffer - length p.unread) (input_total - p.came)
+
+abbrev pub after_came : List ℕ → Parts → Parts
+after_came b p = record p { unread = p.unread ++ b; came = p.came + length b }
+
+-- the length of a plain head that was found
+abbrev pub plain_size : Front → Option ℕ
+plain_size awaited = None
+plain_size malformed = None
+plain_size (found n h) = if is_plain h then Some n else None
+
+abbrev pub unsent_of : Parts → List ℕ
+unsent_of p = if p.is_broken then [] else drop p.took p.output
+
+abbrev pub may_begin_with : Parts → Bool
+may_begin_with p = not p.is_open && (is_none p.cause && nat_le (length (unsent_of p)) begin_bound)
+
+-- the length of the head that is to be taken up
+abbrev pub due_size : Limits → Parts → Option ℕ
+due_size limits p =
+    if may_begin_with p then plain_size (head_of limits.max_head limits.max_fields p.unread) else None
+
+-- a head of n bytes is taken up for a component
+abbrev pub after_begin : ℕ → ℕ → Parts → Parts
+after_begin n part p = record p {
+  unread = drop n p.unread;
+  is_open = true;
+  part = part;
+  running = None;
+  is_served = false;
+  calls = [];
+  state = state.Dispatched;
+  answer = fresh_answer;
+}
+
+abbrev pub after_due : ℕ → Parts → Option ℕ → Parts
+after_due part p None = p
+after_due part p (Some n) = after_begin n part p
+
+-- a due head is taken up
+abbrev pub after_settling : Limits → ℕ → Parts → Parts
+after_settling limits part p = after_due part p (due_size limits p)
+
+-- ---- a worker's turn
+
+-- the callback that is owed
+abbrev pub job_of : Parts → Option Job
+job_of p = if p.is_open && is_none p.running then job_in p.state p.is_served p.part else None
+
+-- it begins
+abbrev pub after_job : Option Job → Parts → Parts
+after_job None p = p
+after_job (Some (job.Service part)) p = record p {
+  running = Some (job.Service part);
+  is_served = true;
+  calls = p.calls ++ call.Run ∷ [];
+  state = next_state p.state call.Run;
+}
+
+-- ---- acts
+
+-- how much of n bytes a write takes
+abbrev pub write_takes_of : Parts → ℕ → ℕ
+write_takes_of p n = takes (length p.answer.content) n
+
+abbrev pub is_full_for : Parts → ℕ → Bool
+is_full_for p n = not (n == 0) && (write_takes_of p n == 0)
+
+abbrev pub after_write : List ℕ → Parts → Parts
+after_write b p = record p { answer = after_put b p.answer }
+
+-- the service returns, and the request ends
+abbrev pub after_return : ℕ → Parts → Parts
+after_return t p = record p {
+  is_open = false;
+  part = 0;
+  running = None;
+  is_served = false;
+  calls = [];
+  state = state.Dispatched;
+  answer = fresh_answer;
+  ended_charts = p.ended_charts ++ (p.calls ++ call.Return ∷ []) ∷ [];
+  output = p.output ++ answer_text p.answer t silent;
+}

@@ -1,0 +1,298 @@
+//! The program, over any source and any sink.
+ghost use Rattle.std.specs.Prelude.{◌≡◌, ◌≢◌, ◌↔◌, ◌≤◌, ◌<◌, ◌⊎◌, ℕ, List, Some, None, IfOk, IfSome, OnErr, OnOk, ◌++◌, OnOk, ◌++◌, IsSome, IsTrue, map, string_bytes};
+ghost use Rattle.std.specs.Io.KnownBytes.{Appends};
+ghost use Rattle.cy_link.specs.Causes.{Rose};
+ghost use Rattle.cyctl.specs.Connecting.{AdmitFirst, admitted_text};
+ghost use Rattle.cyctl.specs.declared.tool.Refusal.TheVariants.{NoMemory};
+ghost use Rattle.cyctl.specs.Causes.{ReadsAll, WasRead, WritesFront};
+ghost use Rattle.cyctl.specs.Tool.{HasNotRisen, IsInForm, IsOutside, IsReplay, IsReplayStatus, IsTold, Reports, WritesReport, WritesReportFront, Tells, come_in_heads, message_of, refusal_for, refusal_of, status_of, is_one_head, no_memory, refused_script, replayed, report_of, source_fault, steps_of, too_large, usage};
+ghost use Rattle.cyctl.specs.declared.input.TheConstants.{GREATEST_INPUT};
+
+use crate::connection::DefaultRule;
+use crate::connector::{Admitted, Connector, Settings};
+use crate::heads::{FoundHead, find_head};
+use crate::input::{InputFault, read_all};
+use crate::output::write_all;
+use crate::report::{push_connection, push_reply_lines};
+use crate::run::{Run, run_steps};
+use cy_event::{Limits, Step};
+use cy_link::{Sink, Source};
+use cy_script::{ScriptFault, read_script};
+use std::alloc::{AllocError, Global};
+
+const USAGE: &[u8] = b"usage: cyctl replay | check | gen <n> | burn <n>\n";
+
+/// Whether the words are `replay` alone.
+fn is_replay(words: &Vec<String>) -> bool
+    ensures { IsTrue result ↔ IsReplay words.now.items }
+{
+    match words.as_slice() {
+        [word] => word.as_str() == "replay",
+        _ => false,
+    }
+}
+
+/// Whether the bytes are exactly one plain head.
+#[tactic(auto, unfolding(crate::specs::Tool::is_one_head))]
+fn is_one_head(bytes: &[u8]) -> bool
+    ensures { result ≡ is_one_head bytes.now }
+{
+    match find_head(bytes, 8192, 100) {
+        FoundHead::Head {
+            length,
+            plain: true,
+        } => length == bytes.len(),
+        _ => false,
+    }
+}
+
+/// Whether whatever comes in is one plain head.
+fn come_in_heads(steps: &[Step]) -> bool
+    ensures { result ≡ come_in_heads steps.now }
+{
+    for step in steps {
+        if let Step::On { bytes, .. } = step {
+            if !is_one_head(bytes.as_slice()) {
+                return false;
+            }
+        }
+    }
+    true
+}
+
+/// Why no report was made.
+#[derive(Clone, Copy, Debug, PartialEq, Eq)]
+pub enum Refusal {
+    /// The source failed.
+    Source,
+    /// The input is larger than the greatest.
+    TooLarge,
+    /// The input is outside the form.
+    Script,
+    /// There is no memory.
+    NoMemory,
+}
+
+impl Refusal {
+    /// The line that tells it.
+    fn message(self) -> &'static [u8]
+        ensures { result.now ≡ message_of self }
+    {
+        match self {
+            Refusal::Source => b"source fault\n",
+            Refusal::TooLarge => b"too large\n",
+            Refusal::Script => b"refused: script\n",
+            Refusal::NoMemory => b"no memory\n",
+        }
+    }
+
+    /// The status of the program.
+    fn status(self) -> u8
+        ensures { result ≡ status_of self }
+    {
+        match self {
+            Refusal::Script => 3,
+            Refusal::Source => 4,
+            Refusal::NoMemory => 6,
+            Refusal::TooLarge => 7,
+        }
+    }
+}
+
+impl From<InputFault> for Refusal {
+    ghost from_gives = { λ fault refusal. refusal ≡ refusal_of fault };
+
+    fn from(fault: InputFault) -> Refusal {
+        match fault {
+            InputFault::Failed => Refusal::Source,
+            InputFault::TooLarge => Refusal::TooLarge,
+            InputFault::NoMemory => Refusal::NoMemory,
+        }
+    }
+}
+
+impl From<ScriptFault> for Refusal {
+    ghost from_gives = { λ fault refusal. refusal ≡ refusal_for fault };
+
+    fn from(fault: ScriptFault) -> Refusal {
+        match fault {
+            ScriptFault::Refused => Refusal::Script,
+            ScriptFault::NoMemory => Refusal::NoMemory,
+        }
+    }
+}
+
+impl From<AllocError> for Refusal {
+    ghost from_gives = { λ _ refusal. refusal ≡ NoMemory };
+
+    fn from(_: AllocError) -> Refusal {
+        Refusal::NoMemory
+    }
+}
+
+/// Appends what the connection that was admitted came to.
+fn push_admitted(
+    alloc: Global,
+    out: &mut Vec<u8>,
+    admitted: Option<Admitted>,
+) -> Result<(), AllocError>
+    ensures { OnOk result (out.new.items ≡ out.old.items ++ admitted_text admitted) }
+{
+    let Some(Admitted { number, connection }) = admitted else {
+        return Ok(());
+    };
+    let account = connection.into_account()?;
+    push_connection(
+        alloc,
+        out,
+        number,
+        None,
+        0,
+        &account.written,
+        &account.charts,
+    )?;
+    Ok(())
+}
+
+/// The report of steps of which the first alone admits a connection.
+#[tactic(auto, using(crate::proofs::Reported::report_is))]
+fn report(alloc: Global, steps: &[Step]) -> Result<Vec<u8>, AllocError>
+    requires { AdmitFirst steps.now }
+    ensures { IfOk result (λ text. text.items ≡ replayed steps.now) }
+{
+    let settings = Settings {
+        limits: Limits::standard(1),
+        rule: DefaultRule {
+            part: 0,
+            can_async: true,
+        },
+    };
+    let Run { replies, connector } = run_steps(alloc, settings, steps)?;
+    let Connector {
+        settings: _,
+        moment: _,
+        admitted,
+    } = connector;
+    let mut text = Vec::new(alloc);
+    push_reply_lines(alloc, &mut text, &replies)?;
+    push_admitted(alloc, &mut text, admitted)?;
+    Ok(text)
+}
+
+/// The report of an input.
+#[tactic(auto, unfolding(crate::specs::Tool::steps_of))]
+fn report_input(alloc: Global, input: &[u8]) -> Result<Vec<u8>, Refusal>
+    ensures report { IfOk result (λ text. report_of input.now ≡ Some text.items) }
+    ensures script { result ≡ Err Refusal.Script → report_of input.now ≡ None }
+    ensures memory { OnErr result (result ≢ Err Refusal.Script → result ≡ Err Refusal.NoMemory) }
+{
+    let script = read_script(alloc, input)?;
+    let steps = script.steps.as_slice();
+    if !come_in_heads(steps) {
+        return Err(Refusal::Script);
+    }
+    let text = report(alloc, steps)?;
+    Ok(text)
+}
+
+/// The report of what the source has left.
+fn report_source<S: Source>(alloc: Global, source: &mut S) -> Result<Vec<u8>, Refusal>
+    ensures report { IfOk result (λ text. Reports (S.left source.old) (S.left source.new) text.items) }
+    ensures script { result ≡ Err Refusal.Script → IsOutside (S.left source.old) (S.left source.new) }
+    ensures failed { result ≡ Err Refusal.Source → Rose (S.faults source.old) (S.faults source.new) }
+    ensures too_large { result ≡ Err Refusal.TooLarge → WasRead (λ n. GREATEST_INPUT < n) (S.left source.old) (S.left source.new) }
+    ensures not_too_large { result ≢ Err Refusal.TooLarge → WasRead (λ n. n ≤ GREATEST_INPUT) (S.left source.old) (S.left source.new) }
+{
+    let input = read_all(alloc, source)?;
+    let text = report_input(alloc, &input)?;
+    Ok(text)
+}
+
+/// Tells a text, as far as the sink takes it.
+fn tell<K: Sink>(sink: &mut K, text: &[u8])
+    ensures told { Tells (K.held sink.old) (K.held sink.new) (K.faults sink.old) (K.faults sink.new) text.now }
+    ensures later { K.faults sink.old ≤ K.faults sink.new }
+{
+    let _ = write_all(sink, text);
+}
+
+/// Replays the script that the source has: its report is written, or why there is none. The answer is the status.
+fn replay<S: Source, K: Sink>(alloc: Global, source: &mut S, sink: &mut K) -> u8
+    ensures report { result ≡ 0 → WritesReport (S.left source.old) (S.left source.new) (K.held sink.old) (K.held sink.new) }
+    ensures outside { result ≡ 3 → IsOutside (S.left source.old) (S.left source.new) }
+    ensures source { result ≡ 4 → Rose (S.faults source.old) (S.faults source.new) }
+    ensures front { result ≡ 5 → WritesReportFront (S.left source.old) (S.left source.new) (K.held sink.old) (K.held sink.new) }
+    ensures sink { result ≡ 5 → Rose (K.faults sink.old) (K.faults sink.new) }
+    ensures too_large { result ≡ 7 → WasRead (λ n. GREATEST_INPUT < n) (S.left source.old) (S.left source.new) }
+    ensures not_too_large { result ≢ 7 → WasRead (λ n. n ≤ GREATEST_INPUT) (S.left source.old) (S.left source.new) }
+    ensures told { IsTold (K.held sink.old) (K.held sink.new) (K.faults sink.old) (K.faults sink.new) result }
+    ensures only { IsReplayStatus result }
+{
+    match report_source(alloc, source) {
+        Ok(text) => match write_all(sink, &text) {
+            Ok(()) => 0,
+            Err(_) => 5,
+        },
+        Err(refusal) => {
+            tell(sink, refusal.message());
+            refusal.status()
+        }
+    }
+}
+
+/// The program: the words are those of the command line without the program's name, and the answer is its status.
+///
+/// `replay` reads a script from the source to its end and writes its report to the sink. Statuses:
+///
+/// - 0: the report was written.
+/// - 2: the words are none of the forms; the usage is told.
+/// - 3: the input is outside the form of a script.
+/// - 4, 5: the source, the sink failed.
+/// - 6: there is no memory.
+/// - 7: the input has more than 67,108,864 bytes.
+#[tactic(auto, using(crate::proofs::Statuses::completes))]
+pub fn tool<S: Source, K: Sink>(
+    alloc: Global,
+    words: &Vec<String>,
+    source: &mut S,
+    sink: &mut K,
+) -> u8
+    // The source was read to its end, and the sink got the report of the script that was read: each reply and all
+    // answer bytes are those that the definitions give to the connection's own steps.
+    ensures report { result ≡ 0 → WritesReport (S.left source.old) (S.left source.new) (K.held sink.old) (K.held sink.new) }
+
+    // Exactly where the words are none of the forms. Then nothing was read.
+    ensures words { (result ≡ 2) ↔ (IsReplay words.now.items → ⊥) }
+    ensures usage { result ≡ 2 → Tells (K.held sink.old) (K.held sink.new) (K.faults sink.old) (K.faults sink.new) usage }
+    ensures unread { result ≡ 2 → (S.left source.new ≡ S.left source.old) × (S.faults source.new ≡ S.faults source.old) }
+
+    // Only where the input, read whole, is outside the form; and where it is, there is no report.
+    ensures outside { result ≡ 3 → IsOutside (S.left source.old) (S.left source.new) }
+
+    // Only where a count of faults rose in this call; with 5 a front of the report was written.
+    ensures source { result ≡ 4 → Rose (S.faults source.old) (S.faults source.new) }
+    ensures sink { result ≡ 5 → Rose (K.faults sink.old) (K.faults sink.new) }
+    ensures front { result ≡ 5 → WritesReportFront (S.left source.old) (S.left source.new) (K.held sink.old) (K.held sink.new) }
+
+    // Exactly where more than the greatest number of bytes were read in this call.
+    ensures too_large { result ≡ 7 → WasRead (λ n. GREATEST_INPUT < n) (S.left source.old) (S.left source.new) }
+    ensures not_too_large { IsReplay words.now.items → result ≢ 7 → WasRead (λ n. n ≤ GREATEST_INPUT) (S.left source.old) (S.left source.new) }
+
+    // With 3, 4, 6 and 7 the message was told; there is no status beside these.
+    ensures told { IsTold (K.held sink.old) (K.held sink.new) (K.faults sink.old) (K.faults sink.new) result }
+    ensures only { (result ≡ 2) ⊎ IsReplayStatus result }
+
+    // A script of the form is replayed, where neither count rises and memory lasts.
+    ensures complete { IsReplay words.now.items → IsInForm (S.left source.old)
+        → HasNotRisen (S.faults source.old) (S.faults source.new) → HasNotRisen (K.faults sink.old) (K.faults sink.new)
+        → (result ≡ 0) ⊎ (result ≡ 6) }
+{
+    if !is_replay(words) {
+        tell(sink, USAGE);
+        return 2;
+    }
+    replay(alloc, source, sink)
+}
+
+#[cfg(test)]
+mod tests;
