@@ -66,7 +66,7 @@ impl Sink for MemSink {
         ensures later { sink_faults self.old ≤ sink_faults self.new }
         ensures cause { WriteCounts (sink_faults self.old) (sink_faults self.new) result }
         ensures listed { IsTrue (is_listed (sink_failing self.old) (sink_writes self.old)) → result ≡ Write.Failed }
-        ensures failed { result ≡ Write.Failed → IsTrue (is_listed (sink_failing self.old) (sink_writes self.old)) ⊎ (sink_room self.old < length (sink_held self.old) + length bytes.now) }
+        ensures failed { result ≡ Write.Failed → IsTrue (is_listed (sink_failing self.old) (sink_writes self.old)) ⊎ (sink_room self.old < length (sink_held self.old) + min (sink_piece self.old) (length bytes.now)) }
         ensures full { (n : ℕ) → result ≡ Write.Took n → n ≡ min (sink_piece self.old) (length bytes.now) }
         ensures room { sink_room self.old ≤ sink_room self.new }
         ensures failing { sink_failing self.new ≡ sink_failing self.old }

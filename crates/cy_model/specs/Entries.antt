@@ -10,10 +10,10 @@ use Rattle.cy_event.specs.declared.steps.Job.{Job}
 use Rattle.cy_event.specs.declared.steps.Job.TheVariants as job
 use Rattle.cy_event.specs.declared.steps.Reply.{Reply}
 use Rattle.cy_event.specs.declared.steps.Reply.TheVariants as reply
-use Rattle.cy_event.specs.Answers.{takes}
+use Rattle.cy_event.specs.Answers.{Answer, takes}
 use Rattle.cy_event.specs.Mapping.{Rule}
 use Rattle.cy_event.specs.Table.{row, is_end}
-use Rattle.cy_model.specs.Folds.{bytes_of, unread, running, state_of, answer_of}
+use Rattle.cy_model.specs.Folds.{bytes_of, unread, running, state_of, answer_of, ended_charts}
 use Rattle.cy_model.specs.Jobs.{next_job}
 use Rattle.cy_model.specs.Marks.{Mark, opened, came, called, started, back, put, over, Trace}
 use Rattle.cy_model.specs.Settling.{with_marks, settled}
@@ -39,17 +39,20 @@ input_buffer = 16384
 abbrev pub input_total : ℕ
 input_total = 2 ^ 62
 
--- how many bytes may come
+-- how many bytes may come, of those that wait and the number of all that came
+abbrev pub room_by : List ℕ → ℕ → ℕ
+room_by waiting total = min (input_buffer - length waiting) (input_total - total)
+
 abbrev pub room : Trace → ℕ
-room T = min (input_buffer - length (unread T)) (input_total - length (bytes_of T))
+room T = room_by (unread T) (length (bytes_of T))
 
 -- how much of n bytes of content is taken
-abbrev pub write_takes : Trace → ℕ → ℕ
-write_takes T n = takes (length (answer_of T).content) n
+abbrev pub write_takes : Answer → ℕ → ℕ
+write_takes a n = takes (length a.content) n
 
 -- no byte of a write is taken that asks for some
-abbrev pub is_full : Trace → ℕ → Bool
-is_full T n = not (n == 0) && (write_takes T n == 0)
+abbrev pub is_full : Answer → ℕ → Bool
+is_full a n = not (n == 0) && (write_takes a n == 0)
 
 -- ---- the marks
 
@@ -68,7 +71,7 @@ job_marks (Some (job.Service part)) = started (job.Service part) ∷ called call
 
 -- the marks of an act of the callback that runs; a refused act makes none
 abbrev pub act_marks : Trace → Act → List ℕ → Option (List Mark)
-act_marks T (act.Write n) b = if is_full T n then None else Some (put (take (write_takes T n) b) ∷ [])
+act_marks T (act.Write n) b = if is_full (answer_of T) n then None else Some (put (take (write_takes (answer_of T) n) b) ∷ [])
 act_marks T act.Return b = Some (return_marks T)
 
 -- an act is refused, or its marks are made and what follows from them
@@ -76,17 +79,24 @@ abbrev pub after_act : Limits → List Rule → ℕ → Trace → Option (List M
 after_act limits rules t T None = T
 after_act limits rules t T (Some ms) = settled limits rules t (with_marks t ms T)
 
--- A worker's turn settles first, and then begins the callback that is owed. No move ends a request so far; a turn
--- that ends one begins nothing.
-abbrev pub after_turn : ℕ → Trace → Trace
-after_turn t S = with_marks t (job_marks (next_job S)) S
+-- how many requests have ended
+abbrev pub ended : Trace → ℕ
+ended T = length (ended_charts T)
+
+-- the callback that is owed in the settled trace; none where settling ended a request
+abbrev pub owed_after : Trace → Trace → Option Job
+owed_after T S = if ended S == ended T then next_job S else None
+
+-- A worker's turn settles first, and then begins the callback that is owed.
+abbrev pub after_turn : ℕ → Trace → Trace → Trace
+after_turn t T S = with_marks t (job_marks (owed_after T S)) S
 
 -- the trace after an entry
 unfoldable pub after : Limits → List Rule → ℕ → Trace → Entry → Trace
 after limits rules t T opening = settled limits rules t ((t, opened) ∷ T)
 after limits rules t T tick = settled limits rules t T
 after limits rules t T (told event.In b) = settled limits rules t ((t, came (take (room T) b)) ∷ T)
-after limits rules t T turned = after_turn t (settled limits rules t T)
+after limits rules t T turned = after_turn t T (settled limits rules t T)
 after limits rules t T (acted a b) =
     if is_some (running T) then after_act limits rules t T (act_marks T a b) else T
 
@@ -102,7 +112,7 @@ job_reply None = reply.Idle
 job_reply (Some j) = reply.Begun j
 
 abbrev pub act_reply : Trace → Act → Reply
-act_reply T (act.Write n) = if is_full T n then reply.Again else reply.Taken (write_takes T n)
+act_reply T (act.Write n) = if is_full (answer_of T) n then reply.Again else reply.Taken (write_takes (answer_of T) n)
 act_reply T act.Return = reply.Done
 
 -- the reply to an entry
@@ -110,5 +120,5 @@ unfoldable pub reply_to : Limits → List Rule → ℕ → Trace → Entry → R
 reply_to limits rules t T opening = reply.Entered
 reply_to limits rules t T tick = reply.Done
 reply_to limits rules t T (told event.In b) = reply.Taken (length (take (room T) b))
-reply_to limits rules t T turned = job_reply (next_job (settled limits rules t T))
+reply_to limits rules t T turned = job_reply (owed_after T (settled limits rules t T))
 reply_to limits rules t T (acted a b) = if is_some (running T) then act_reply T a else reply.NotActive

@@ -53,10 +53,11 @@ is_open ((t, began r) ∷ T) = true
 is_open ((t, over) ∷ T) = false
 is_open ((t, m) ∷ T) = is_open T
 
--- the component that serves it
+-- the component that serves it; a dispatch may name another
 abbrev pub part_of : Trace → ℕ
 part_of [] = 0
 part_of ((t, began r) ∷ T) = r.part
+part_of ((t, called k (Some part)) ∷ T) = part
 part_of ((t, over) ∷ T) = 0
 part_of ((t, m) ∷ T) = part_of T
 
@@ -129,9 +130,12 @@ took [] = 0
 took ((t, sent n) ∷ T) = took T + n
 took ((t, m) ∷ T) = took T
 
--- the bytes that wait for the socket; none once the connection is broken
+-- what waits for the socket, of what was written and taken; nothing once the connection is broken
+abbrev pub unsent_by : Bool → ℕ → List ℕ → List ℕ
+unsent_by is_broken took written = if is_broken then [] else drop took written
+
 abbrev pub unsent : Trace → List ℕ
-unsent T = if is_broken T then [] else drop (took T) (output T)
+unsent T = unsent_by (is_broken T) (took T) (output T)
 
 -- there is a cause to close, no request is open, and nothing waits for the socket
 abbrev pub is_gone : Trace → Bool

@@ -12,6 +12,9 @@ abbrev pub job_in : State → Bool → ℕ → Option Job
 job_in state.Dispatched false part = Some (job.Service part)
 job_in s served part = None
 
--- while no callback runs
+-- of an open request, while no callback runs
+abbrev pub job_by : Bool → Option Job → State → Bool → ℕ → Option Job
+job_by is_open running s served part = if is_open && is_none running then job_in s served part else None
+
 abbrev pub next_job : Trace → Option Job
-next_job T = if is_open T && is_none (running T) then job_in (state_of T) (is_served T) (part_of T) else None
+next_job T = job_by (is_open T) (running T) (state_of T) (is_served T) (part_of T)

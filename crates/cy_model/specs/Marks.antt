@@ -40,8 +40,8 @@ pub data Mark : Type 0 where
   -- so much content was delivered; its end was told
   given : ℕ → Mark
   end_given : Mark
-  -- any other accepted act
-  did : Act → Mark
+  -- any other accepted act, and the bytes beside it
+  did : Act → List ℕ → Mark
   -- content was accepted; a flush that had something to cut
   put : List ℕ → Mark
   flushed : Mark

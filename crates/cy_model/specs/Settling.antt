@@ -1,6 +1,7 @@
 -- What the container does by itself after a step: the first move that applies is made, until none applies.
 use Rattle.std.specs.Prelude.{ℕ, ◌+◌, ◌*◌, Bool, ◌&&◌, not, nat_le, List, [], ◌∷◌, ◌++◌, length, Option, Some, None, is_none, option_map, codes, if◌then◌else◌}
 use Rattle.cy_event.specs.declared.limits.Limits.{Limits}
+use Rattle.cy_event.specs.declared.steps.CloseCause.{CloseCause}
 use Rattle.cy_event.specs.Heads.{Head, Front, awaited, found, malformed, head_of, is_plain}
 use Rattle.cy_event.specs.Mapping.{Rule, mapped}
 use Rattle.cy_model.specs.Marks.{Mark, began, Trace}
@@ -35,8 +36,11 @@ abbrev pub begin_bound : ℕ
 begin_bound = 16000
 
 -- no request is open, there is no cause to close, and few enough bytes wait for the socket
+abbrev pub may_begin_by : Bool → Option CloseCause → List ℕ → Bool
+may_begin_by is_open cause unsent = not is_open && (is_none cause && nat_le (length unsent) begin_bound)
+
 abbrev pub may_begin : Trace → Bool
-may_begin T = not (is_open T) && (is_none (cause_of T) && nat_le (length (unsent T)) begin_bound)
+may_begin T = may_begin_by (is_open T) (cause_of T) (unsent T)
 
 abbrev pub begin_by : ℕ → ℕ → Head → Option Rule → Move
 begin_by place size head None = None

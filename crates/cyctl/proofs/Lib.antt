@@ -6,6 +6,7 @@ pub mod HeadLines
 pub mod HeadReads
 pub mod HeadShortest
 pub mod OneWord
+pub mod ReadSteps
 pub mod Reported
 pub mod Represented
 pub mod Runs

@@ -1,5 +1,5 @@
 -- The parts that follow each thing that happens stand for the trace that follows it.
-use Rattle.std.proofs.Common.{◌≡◌, ℕ, ◌≤◌, Bool, true, false, cond, List, [], ◌∷◌, length, take, Option, Some, None, is_some, refl, sym, ap, ◌∙◌, subst, arith, length-drop, length-append, codes, if◌then◌else◌}
+use Rattle.std.proofs.Common.{◌≡◌, ℕ, ◌≤◌, Bool, true, false, cond, List, [], ◌∷◌, length, take, Option, Some, None, is_some, refl, sym, ap, ◌∙◌, subst, eq-eqb, arith, length-drop, length-append, codes, if◌then◌else◌}
 use Rattle.std.proofs.lemmas.List.{drop-append-le}
 use Rattle.cy_event.specs.declared.limits.Limits.{Limits}
 use Rattle.cy_event.specs.declared.steps.Act.{Act}
@@ -17,8 +17,8 @@ use Rattle.cy_event.specs.Heads.{Head, Front, awaited, found, malformed, head_of
 use Rattle.cy_event.specs.Mapping.{Rule, mapped}
 use Rattle.cy_event.specs.Table.{row, is_end}
 use Rattle.cy_event.proofs.Fronts.{front_length-bounds, head_of-found}
-use Rattle.cy_model.specs.Entries.{Entry, opening, tick, told, turned, acted, after, after_act, act_marks, act_reply, reply_to, job_marks, job_reply, is_full, write_takes, end_marks}
-use Rattle.cy_model.specs.Folds.{bytes_of, consumed, unread, running, state_of}
+use Rattle.cy_model.specs.Entries.{Entry, ended, owed_after, opening, tick, told, turned, acted, after, after_act, act_marks, act_reply, reply_to, job_marks, job_reply, is_full, write_takes, end_marks}
+use Rattle.cy_model.specs.Folds.{bytes_of, consumed, unread, running, state_of, answer_of}
 use Rattle.cy_model.specs.Jobs.{next_job}
 use Rattle.cy_model.specs.Marks.{Mark, opened, came, began, called, back, put, over, Taken, Trace}
 use Rattle.cy_model.specs.Settling.{with_marks, may_begin, begin_by, first_move, take_up_front, head_move, after_move, settle_step, settled, rule_for}
@@ -28,7 +28,7 @@ use Rattle.cyctl.specs.declared.connection.Stage.TheVariants as stage
 use Rattle.cyctl.specs.Stages.{running_at}
 use Rattle.cyctl.specs.Parts.{Parts, parts, Represents}
 use Rattle.cyctl.specs.Answered.{Answers, default_rule}
-use Rattle.cyctl.specs.PartChanges.{opened_parts, room_in, after_came, plain_size, may_begin_with, due_size, after_begin, after_due, after_settling, job_of, after_job, write_takes_of, is_full_for, after_write, after_return}
+use Rattle.cyctl.specs.PartChanges.{opened_parts, room_in, after_came, plain_size, may_begin_with, due_size, after_begin, after_due, after_settling, job_of, after_job, after_write, after_return}
 
 -- ---- single marks
 
@@ -156,13 +156,33 @@ job_represents : (t : ℕ) (S : Trace) (o : Option Job) → Represents S (parts 
 job_represents t S None s = s
 job_represents t S (Some (job.Service part)) s = record { same = refl; within = s.within }
 
+-- a head that is taken up ends no request
+due_ended : (part : ℕ) (p : Parts) (o : Option ℕ) → (after_due part p o).ended_charts ≡ p.ended_charts
+due_ended part p None = refl
+due_ended part p (Some n) = refl
+
+-- settling ends no request, so what is owed then is begun
+owed_settled : (limits : Limits) (part : ℕ) (T S : Trace) (p : Parts) → Represents T p → Represents S (after_settling limits part p) → owed_after T S ≡ next_job S
+owed_settled limits part T S p s stands =
+    let same : ended S ≡ ended T = ap length (
+    sym (ap (λ (q : Parts). q.ended_charts) stands.same)
+    ∙ due_ended part p (due_size limits p)
+    ∙ ap (λ (q : Parts). q.ended_charts) s.same) in
+    ap (λ (v : Bool). if v then next_job S else None) (eq-eqb (ended S) (ended T) same)
+
 pub turn_answers : (limits : Limits) (part : ℕ) (can_async : Bool) (t : ℕ) (T : Trace) (p : Parts) → Represents T p → Answers limits (default_rule part can_async) t T turned (job_reply (job_of (after_settling limits part p))) (after_job (job_of (after_settling limits part p)) (after_settling limits part p))
 unfolding after reply_to
 turn_answers limits part can_async t T p s =
     let rules = default_rule part can_async in
     let S = settled limits rules t T in
-    at_parts S (after_settling limits part p) (λ q. Answers limits rules t T turned (job_reply (job_of q)) (after_job (job_of q) q)) (settled_represents limits part can_async t T p s)
-    (λ own. record { reply = refl; stands = job_represents t S (next_job S) own })
+    let stands = settled_represents limits part can_async t T p s in
+    let owed = owed_settled limits part T S p s stands in
+    at_parts S (after_settling limits part p) (λ q. Answers limits rules t T turned (job_reply (job_of q)) (after_job (job_of q) q)) stands
+    (λ own. record {
+      reply = ap job_reply (sym owed);
+      stands = subst (λ (o : Option Job). Represents (with_marks t (job_marks o) S) (after_job (next_job S) (parts S))) (sym owed)
+          (job_represents t S (next_job S) own);
+    })
 
 -- no callback runs
 pub act_not_active : (limits : Limits) (rules : List Rule) (t : ℕ) (a : Act) (b : List ℕ) (T : Trace) (p : Parts) → p.running ≡ None → Represents T p → Answers limits rules t T (acted a b) reply.NotActive p
@@ -197,25 +217,25 @@ runs_in : (j : Job) (T : Trace) (p : Parts) → Represents T p → p.running ≡
 runs_in j T p s runs = sym (ap (λ (q : Parts). q.running) s.same) ∙ runs
 
 -- the content buffer is full
-pub write_again : (limits : Limits) (rules : List Rule) (t n : ℕ) (b : List ℕ) (j : Job) (T : Trace) (p : Parts) → p.running ≡ Some j → is_full_for p n ≡ true → Represents T p → Answers limits rules t T (acted (act.Write n) b) reply.Again p
+pub write_again : (limits : Limits) (rules : List Rule) (t n : ℕ) (b : List ℕ) (j : Job) (T : Trace) (p : Parts) → p.running ≡ Some j → is_full p.answer n ≡ true → Represents T p → Answers limits rules t T (acted (act.Write n) b) reply.Again p
 write_again limits rules t n b j T p runs full s =
-    let full_here : is_full T n ≡ true = sym (ap (λ (q : Parts). is_full_for q n) s.same) ∙ full in
+    let full_here : is_full (answer_of T) n ≡ true = sym (ap (λ (q : Parts). is_full q.answer n) s.same) ∙ full in
     act_answers limits rules t (act.Write n) b j T None reply.Again p (runs_in j T p s runs)
-    (ap (λ (v : Bool). if v then None else Some (put (take (write_takes T n) b) ∷ [])) full_here)
-    (ap (λ (v : Bool). if v then reply.Again else reply.Taken (write_takes T n)) full_here) s
+    (ap (λ (v : Bool). if v then None else Some (put (take (write_takes (answer_of T) n) b) ∷ [])) full_here)
+    (ap (λ (v : Bool). if v then reply.Again else reply.Taken (write_takes (answer_of T) n)) full_here) s
 
 -- content is taken
-pub write_taken : (limits : Limits) (part : ℕ) (can_async : Bool) (t n : ℕ) (b : List ℕ) (j : Job) (T : Trace) (p : Parts) → p.running ≡ Some j → is_full_for p n ≡ false → Represents T p → Answers limits (default_rule part can_async) t T (acted (act.Write n) b) (reply.Taken (write_takes_of p n)) (after_settling limits part (after_write (take (write_takes_of p n) b) p))
+pub write_taken : (limits : Limits) (part : ℕ) (can_async : Bool) (t n : ℕ) (b : List ℕ) (j : Job) (T : Trace) (p : Parts) → p.running ≡ Some j → is_full p.answer n ≡ false → Represents T p → Answers limits (default_rule part can_async) t T (acted (act.Write n) b) (reply.Taken (write_takes p.answer n)) (after_settling limits part (after_write (take (write_takes p.answer n) b) p))
 write_taken limits part can_async t n b j T p runs fits s =
     let rules = default_rule part can_async in
-    let fits_here : is_full T n ≡ false = sym (ap (λ (q : Parts). is_full_for q n) s.same) ∙ fits in
-    at_parts T p (λ q. Answers limits rules t T (acted (act.Write n) b) (reply.Taken (write_takes_of q n)) (after_settling limits part (after_write (take (write_takes_of q n) b) q))) s
+    let fits_here : is_full (answer_of T) n ≡ false = sym (ap (λ (q : Parts). is_full q.answer n) s.same) ∙ fits in
+    at_parts T p (λ q. Answers limits rules t T (acted (act.Write n) b) (reply.Taken (write_takes q.answer n)) (after_settling limits part (after_write (take (write_takes q.answer n) b) q))) s
     (λ own.
-    let taken = take (write_takes T n) b in
-    act_answers limits rules t (act.Write n) b j T (Some (put taken ∷ [])) (reply.Taken (write_takes T n))
+    let taken = take (write_takes (answer_of T) n) b in
+    act_answers limits rules t (act.Write n) b j T (Some (put taken ∷ [])) (reply.Taken (write_takes (answer_of T) n))
     (after_settling limits part (after_write taken (parts T))) (runs_in j T p s runs)
     (ap (λ (v : Bool). if v then None else Some (put taken ∷ [])) fits_here)
-    (ap (λ (v : Bool). if v then reply.Again else reply.Taken (write_takes T n)) fits_here)
+    (ap (λ (v : Bool). if v then reply.Again else reply.Taken (write_takes (answer_of T) n)) fits_here)
     (settled_represents limits part can_async t ((t, put taken) ∷ T) (after_write taken (parts T)) (record { same = refl; within = own.within })))
 
 -- the service returns, and its request ends

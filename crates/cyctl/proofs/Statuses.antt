@@ -2,6 +2,7 @@
 use Rattle.std.proofs.Common.{◌≡◌, ℕ, ◌<◌, ◌≤◌, ◌⊎◌, inl, inr, List, ◌++◌, length, Option, Some, None, is_some, true, sym, ap, ◌∙◌, subst, arith, length-append}
 use Rattle.std.specs.Io.KnownBytes.{Consumes}
 use Rattle.std.proofs.lemmas.List.{append-nil}
+use Rattle.cyctl.specs.declared.input.TheConstants.{GREATEST_INPUT}
 use Rattle.cyctl.specs.Causes.{ReadsAll, WasRead}
 use Rattle.cyctl.specs.Tool.{HasNotRisen, IsInForm, IsOutside, IsReplayStatus, report_of}
 use Rattle.cyctl.specs.declared.tool.Refusal.TheVariants.{Source, TooLarge, Script, NoMemory}
@@ -28,13 +29,13 @@ not_outside left now f o =
     cc
 
 -- what is small enough is not too large
-not_too_large : (left now : Option (List ℕ)) → IsInForm left → WasRead (λ n. 67108864 < n) left now → ⊥
+not_too_large : (left now : Option (List ℕ)) → IsInForm left → WasRead (λ n. GREATEST_INPUT < n) left now → ⊥
 not_too_large left now f w =
     let reads = subst (λ (l : Option (List ℕ)). Consumes l now w.0) f.left_is w.1 in
     absurd (omega (arith, f.small, w.2, consumed_within f.input w.0 now reads))
 
 -- the statuses that are left
-pub completes : (left now : Option (List ℕ)) (s t k l status : ℕ) → IsReplayStatus status → (status ≡ 3 → IsOutside left now) → (status ≡ 4 → Rose s t) → (status ≡ 5 → Rose k l) → (status ≡ 7 → WasRead (λ n. 67108864 < n) left now) → IsInForm left → HasNotRisen s t → HasNotRisen k l → (status ≡ 0) ⊎ (status ≡ 6)
+pub completes : (left now : Option (List ℕ)) (s t k l status : ℕ) → IsReplayStatus status → (status ≡ 3 → IsOutside left now) → (status ≡ 4 → Rose s t) → (status ≡ 5 → Rose k l) → (status ≡ 7 → WasRead (λ n. GREATEST_INPUT < n) left now) → IsInForm left → HasNotRisen s t → HasNotRisen k l → (status ≡ 0) ⊎ (status ≡ 6)
 completes left now s t k l status (inl zero) outside source sink large f source_calm sink_calm = inl zero
 completes left now s t k l status (inr (inl five)) outside source sink large f source_calm sink_calm = absurd (sink_calm (sink five))
 completes left now s t k l status (inr (inr (Source, e))) outside source sink large f source_calm sink_calm = absurd (source_calm (source e))

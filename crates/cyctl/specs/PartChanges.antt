@@ -1,16 +1,17 @@
 -- What each thing that happens does to the parts of a connection.
-use Rattle.std.specs.Prelude.{ℕ, ◌+◌, ◌-◌, min, Bool, true, false, ◌&&◌, not, nat_le, List, [], ◌∷◌, ◌++◌, length, drop, Option, Some, None, is_none, ◌==◌, if◌then◌else◌}
+use Rattle.std.specs.Prelude.{ℕ, ◌+◌, Bool, true, false, List, [], ◌∷◌, ◌++◌, length, drop, Option, Some, None, if◌then◌else◌}
 use Rattle.cy_event.specs.declared.limits.Limits.{Limits}
 use Rattle.cy_event.specs.declared.steps.Call.TheVariants as call
 use Rattle.cy_event.specs.declared.steps.Job.{Job}
 use Rattle.cy_event.specs.declared.steps.Job.TheVariants as job
 use Rattle.cy_event.specs.declared.steps.State.TheVariants as state
-use Rattle.cy_event.specs.Answers.{fresh_answer, after_put, answer_text, silent, takes}
+use Rattle.cy_event.specs.Answers.{fresh_answer, after_put, answer_text, silent}
 use Rattle.cy_event.specs.Heads.{Front, awaited, found, malformed, head_of, is_plain}
 use Rattle.cy_event.specs.Table.{next_state}
-use Rattle.cy_model.specs.Entries.{input_buffer, input_total}
-use Rattle.cy_model.specs.Jobs.{job_in}
-use Rattle.cy_model.specs.Settling.{begin_bound}
+use Rattle.cy_model.specs.Entries.{room_by}
+use Rattle.cy_model.specs.Folds.{unsent_by}
+use Rattle.cy_model.specs.Jobs.{job_by}
+use Rattle.cy_model.specs.Settling.{may_begin_by}
 use Rattle.cyctl.specs.Parts.{Parts}
 
 -- as a connection opens
@@ -34,7 +35,7 @@ opened_parts = record {
 
 -- how many bytes may come
 abbrev pub room_in : Parts → ℕ
-room_in p = min (input_buffer - length p.unread) (input_total - p.came)
+room_in p = room_by p.unread p.came
 
 abbrev pub after_came : List ℕ → Parts → Parts
 after_came b p = record p { unread = p.unread ++ b; came = p.came + length b }
@@ -45,11 +46,8 @@ plain_size awaited = None
 plain_size malformed = None
 plain_size (found n h) = if is_plain h then Some n else None
 
-abbrev pub unsent_of : Parts → List ℕ
-unsent_of p = if p.is_broken then [] else drop p.took p.output
-
 abbrev pub may_begin_with : Parts → Bool
-may_begin_with p = not p.is_open && (is_none p.cause && nat_le (length (unsent_of p)) begin_bound)
+may_begin_with p = may_begin_by p.is_open p.cause (unsent_by p.is_broken p.took p.output)
 
 -- the length of the head that is to be taken up
 abbrev pub due_size : Limits → Parts → Option ℕ
@@ -81,7 +79,7 @@ after_settling limits part p = after_due part p (due_size limits p)
 
 -- the callback that is owed
 abbrev pub job_of : Parts → Option Job
-job_of p = if p.is_open && is_none p.running then job_in p.state p.is_served p.part else None
+job_of p = job_by p.is_open p.running p.state p.is_served p.part
 
 -- it begins
 abbrev pub after_job : Option Job → Parts → Parts
@@ -94,13 +92,6 @@ after_job (Some (job.Service part)) p = record p {
 }
 
 -- ---- acts
-
--- how much of n bytes a write takes
-abbrev pub write_takes_of : Parts → ℕ → ℕ
-write_takes_of p n = takes (length p.answer.content) n
-
-abbrev pub is_full_for : Parts → ℕ → Bool
-is_full_for p n = not (n == 0) && (write_takes_of p n == 0)
 
 abbrev pub after_write : List ℕ → Parts → Parts
 after_write b p = record p { answer = after_put b p.answer }

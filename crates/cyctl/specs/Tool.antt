@@ -1,5 +1,5 @@
 -- What the program writes for its words and its input.
-use Rattle.std.specs.Prelude.{◌≡◌, ◌⊎◌, ℕ, Bool, true, false, ◌&&◌, List, [], ◌∷◌, length, map, Option, Some, None, IsSome, ◌≤◌, option_map, codes, string_bytes, String, ◌==◌, if◌then◌else◌}
+use Rattle.std.specs.Prelude.{◌≡◌, ◌⊎◌, ℕ, Bool, true, false, ◌&&◌, List, [], ◌∷◌, length, map, reverse, Option, Some, None, IsSome, ◌≤◌, option_map, codes, string_bytes, String, ◌==◌, if◌then◌else◌}
 use Rattle.std.specs.declared.alloc.Global.{Global}
 use Rattle.std.specs.Io.KnownBytes.{Appends}
 use Rattle.cy_event.specs.Heads.{Front, awaited, found, malformed, head_of, is_plain}
@@ -8,9 +8,11 @@ use Rattle.cy_event.specs.declared.steps.Step.{Step}
 use Rattle.cy_event.specs.declared.steps.Step.TheVariants as step
 use Rattle.cy_link.specs.Causes.{Rose}
 use Rattle.cy_model.specs.Reports.{report}
+use Rattle.cy_model.specs.Steps.{IsValid}
 use Rattle.cy_script.specs.Reading.{script_of}
 use Rattle.cy_script.specs.declared.fault.ScriptFault.{ScriptFault}
 use Rattle.cy_script.specs.declared.fault.ScriptFault.TheVariants as script
+use Rattle.cyctl.specs.declared.input.TheConstants.{GREATEST_INPUT}
 use Rattle.cyctl.specs.declared.input.InputFault.{InputFault}
 use Rattle.cyctl.specs.declared.input.InputFault.TheVariants as fault
 use Rattle.cyctl.specs.declared.tool.Refusal.{Refusal}
@@ -33,13 +35,13 @@ is_whole_head n malformed = false
 is_whole_head n (found size h) = (size == n) && is_plain h
 
 -- the bytes are exactly one plain head, by the standard limits
-unfoldable pub is_one_head : List ℕ → Bool
-is_one_head b = is_whole_head (length b) (head_of 8192 100 b)
+unfoldable pub is_one_plain_head : List ℕ → Bool
+is_one_plain_head b = is_whole_head (length b) (head_of (standard 1).max_head (standard 1).max_fields b)
 
 -- whatever comes in is one plain head
 abbrev pub come_in_heads : List Step → Bool
 come_in_heads [] = true
-come_in_heads (step.On c e b ∷ steps) = is_one_head b && come_in_heads steps
+come_in_heads (step.On c e b ∷ steps) = is_one_plain_head b && come_in_heads steps
 come_in_heads (s ∷ steps) = come_in_heads steps
 
 -- steps of which this holds
@@ -143,5 +145,11 @@ HasNotRisen before now = Rose before now → ⊥
 pub record IsInForm (left : Option (List ℕ)) : Type 0 where
   pub input : List ℕ
   pub left_is : left ≡ Some input
-  pub small : length input ≤ 67108864
+  pub small : length input ≤ GREATEST_INPUT
   pub form : IsSome (report_of input)
+
+-- ---- a law
+
+-- the steps of an input are a valid list, read from its newest step
+abbrev pub ReadStepsAreValid : Type 0
+ReadStepsAreValid = (input : List ℕ) (steps : List Step) → steps_of input ≡ Some steps → IsValid (reverse steps)

@@ -6,6 +6,7 @@ ghost use Rattle.cy_event.specs.declared.limits.TheConstants.{GREATEST_MOMENT};
 use crate::answer::push_answer;
 use crate::chart::Chart;
 use crate::heads::{FoundHead, find_head};
+use crate::settings::Settings;
 use cy_event::{Act, Call, Event, Job, Limits, Reply};
 use std::alloc::{AllocError, Global};
 use std::marker::Model;
@@ -83,38 +84,29 @@ const CONTENT_BUFFER: usize = 8192;
 /// As many bytes may wait for the socket as a further head is taken up.
 const BEGIN_BOUND: usize = 16_000;
 
-/// The rule whose pattern is `/`: the component that serves, and whether it may process asynchronously.
-#[derive(Clone, Copy, Debug, PartialEq, Eq)]
-pub struct DefaultRule {
-    pub part: u32,
-    pub can_async: bool,
-}
-
 impl Connection {
     ghost use Rattle.cy_event.specs.declared.steps.Act.TheVariants as act;
     ghost use Rattle.cy_event.specs.declared.steps.Event.TheVariants as event;
     ghost use Rattle.cy_event.specs.declared.steps.Reply.TheVariants as reply;
-    ghost use Rattle.cy_model.specs.Entries.{after, opening, tick, told, turned, acted, job_reply};
-    ghost use Rattle.cyctl.specs.Answered.{Answers, AnswersEach, default_rule};
+    ghost use Rattle.cy_model.specs.Entries.{acted, after, is_full, job_reply, opening, tick, told, turned, write_takes};
+    ghost use Rattle.cyctl.specs.Answered.{Answers, AnswersEach, rules_of};
     ghost use Rattle.cyctl.specs.Parts.{Represents, charts_of};
-    ghost use Rattle.cyctl.specs.PartChanges.{after_came, after_begin, after_job, after_settling, after_write, after_return, due_size, is_full_for, job_of, opened_parts, room_in, write_takes_of};
+    ghost use Rattle.cyctl.specs.PartChanges.{after_came, after_begin, after_job, after_settling, after_write, after_return, due_size, job_of, opened_parts, room_in};
 
     /// A connection that is admitted at a moment.
-    pub fn open(alloc: Global, at: u64, limits: &Limits, rule: DefaultRule) -> Connection
-        requires { limits.now.max_fields ≤ 100 }
-        ensures { Represents (after limits.now (default_rule rule.part rule.can_async) at [] opening) result }
+    pub fn open(alloc: Global, at: u64, settings: &Settings) -> Connection
+        ensures { Represents (after settings.now.limits (rules_of settings.now) at [] opening) result }
     {
         let mut connection = Connection::new(alloc);
-        connection.settle(limits, rule);
+        connection.settle(settings);
         connection
     }
 
     /// The clock goes on, which is answered `Done`.
-    pub fn tick(&mut self, at: u64, limits: &Limits, rule: DefaultRule)
-        requires { limits.now.max_fields ≤ 100 }
-        ensures { AnswersEach limits.now (default_rule rule.part rule.can_async) at tick self.old reply.Done self.new }
+    pub fn tick(&mut self, at: u64, settings: &Settings)
+        ensures { AnswersEach settings.now at tick self.old reply.Done self.new }
     {
-        self.settle(limits, rule);
+        self.settle(settings);
     }
 
     /// The socket tells something.
@@ -123,24 +115,21 @@ impl Connection {
         at: u64,
         event: Event,
         bytes: &[u8],
-        limits: &Limits,
-        rule: DefaultRule,
+        settings: &Settings,
     ) -> Result<Reply, AllocError>
-        requires { limits.now.max_fields ≤ 100 }
-        ensures { IfOk result (λ r. AnswersEach limits.now (default_rule rule.part rule.can_async) at (told event bytes.now) self.old r self.new) }
+        ensures { IfOk result (λ r. AnswersEach settings.now at (told event bytes.now) self.old r self.new) }
     {
         let Event::In = event;
         let count = self.take_in(bytes)?;
-        self.settle(limits, rule);
+        self.settle(settings);
         Ok(Reply::Taken(count as u64))
     }
 
     /// A worker turns to the connection.
-    pub fn run(&mut self, at: u64, limits: &Limits, rule: DefaultRule) -> Result<Reply, AllocError>
-        requires { limits.now.max_fields ≤ 100 }
-        ensures { IfOk result (λ r. AnswersEach limits.now (default_rule rule.part rule.can_async) at turned self.old r self.new) }
+    pub fn run(&mut self, at: u64, settings: &Settings) -> Result<Reply, AllocError>
+        ensures { IfOk result (λ r. AnswersEach settings.now at turned self.old r self.new) }
     {
-        self.settle(limits, rule);
+        self.settle(settings);
         let reply = self.begin_job()?;
         Ok(reply)
     }
@@ -151,13 +140,11 @@ impl Connection {
         at: u64,
         act: Act,
         bytes: &[u8],
-        limits: &Limits,
-        rule: DefaultRule,
+        settings: &Settings,
     ) -> Result<Reply, AllocError>
-        requires limits { limits.now.max_fields ≤ 100 }
         requires within { IsWithinBytes act bytes.now }
         requires moment { at ≤ GREATEST_MOMENT }
-        ensures { IfOk result (λ r. AnswersEach limits.now (default_rule rule.part rule.can_async) at (acted act bytes.now) self.old r self.new) }
+        ensures { IfOk result (λ r. AnswersEach settings.now at (acted act bytes.now) self.old r self.new) }
     {
         let Stage::Serving { .. } = self.stage else {
             return Ok(Reply::NotActive);
@@ -167,12 +154,12 @@ impl Connection {
                 let Some(taken) = self.put(bytes, count as usize)? else {
                     return Ok(Reply::Again);
                 };
-                self.settle(limits, rule);
+                self.settle(settings);
                 Ok(Reply::Taken(taken as u64))
             }
             Act::Return => {
                 self.finish(at)?;
-                self.settle(limits, rule);
+                self.settle(settings);
                 Ok(Reply::Done)
             }
         }
@@ -229,12 +216,11 @@ impl Connection {
 
     /// Takes up the head that is due, if one is.
     #[tactic(auto, using(crate::proofs::Represented::due_size_within))]
-    fn settle(&mut self, limits: &Limits, rule: DefaultRule)
-        requires { limits.now.max_fields ≤ 100 }
-        ensures { self.new ≡ after_settling limits.now rule.part self.old }
+    fn settle(&mut self, settings: &Settings)
+        ensures { self.new ≡ after_settling settings.now.limits settings.now.rule.part self.old }
     {
-        if let Some(length) = self.due(limits) {
-            self.begin(length, rule.part);
+        if let Some(length) = self.due(&settings.limits) {
+            self.begin(length, settings.rule.part);
         }
     }
 
@@ -284,11 +270,11 @@ impl Connection {
     /// Takes content of so many bytes, as much as the buffer has room for; nothing where it is full and some is asked.
     fn put(&mut self, bytes: &[u8], asked: usize) -> Result<Option<usize>, AllocError>
         requires { asked ≤ length bytes.now }
-        ensures full { IfOk result (λ o. IfNone o (is_full_for self.old asked ≡ true)) }
+        ensures full { IfOk result (λ o. IfNone o (is_full self.old.answer asked ≡ true)) }
         ensures unchanged { IfOk result (λ o. IfNone o (self.new ≡ self.old)) }
-        ensures room { IfOk result (λ o. OnSome o (is_full_for self.old asked ≡ false)) }
-        ensures count { IfOk result (λ o. IfSome o (λ n. n ≡ write_takes_of self.old asked)) }
-        ensures put { IfOk result (λ o. OnSome o (self.new ≡ after_write (take (write_takes_of self.old asked) bytes.now) self.old)) }
+        ensures room { IfOk result (λ o. OnSome o (is_full self.old.answer asked ≡ false)) }
+        ensures count { IfOk result (λ o. IfSome o (λ n. n ≡ write_takes self.old.answer asked)) }
+        ensures put { IfOk result (λ o. OnSome o (self.new ≡ after_write (take (write_takes self.old.answer asked) bytes.now) self.old)) }
     {
         let room = CONTENT_BUFFER.saturating_sub(self.content.len());
         let count = asked.min(room);

@@ -4,8 +4,9 @@ ghost use Rattle.cy_event.specs.declared.limits.TheConstants.{GREATEST_MOMENT};
 ghost use Rattle.cy_event.specs.declared.steps.Step.{Step as AnyStep};
 ghost use Rattle.cy_model.specs.Steps.{IsWithinBytes};
 
-use crate::connection::{Connection, DefaultRule};
-use cy_event::{Act, Event, Limits, Reply, Step};
+use crate::connection::Connection;
+use crate::settings::Settings;
+use cy_event::{Act, Event, Reply, Step};
 use std::alloc::{AllocError, Global};
 
 /// A connection under its number.
@@ -17,7 +18,7 @@ pub struct Admitted {
 
 impl Admitted {
     ghost use Rattle.cy_model.specs.Entries.{acted, told, turned};
-    ghost use Rattle.cyctl.specs.Connecting.{AnswersAt, rules_of};
+    ghost use Rattle.cyctl.specs.Connecting.{AnswersAt};
 
     /// The socket of the connection of this number tells something.
     fn event(
@@ -28,27 +29,23 @@ impl Admitted {
         bytes: &[u8],
         settings: &Settings,
     ) -> Result<Reply, AllocError>
-        requires { settings.now.limits.max_fields ≤ 100 }
-        ensures { IfOk result (λ r. AnswersAt settings.now.limits (rules_of settings.now.rule) at number (told event bytes.now) self.old r self.new) }
+        ensures { IfOk result (λ r. AnswersAt settings.now at number (told event bytes.now) self.old r self.new) }
     {
         if self.number != number {
             return Ok(Reply::NoConn);
         }
-        let reply = self
-            .connection
-            .event(at, event, bytes, &settings.limits, settings.rule)?;
+        let reply = self.connection.event(at, event, bytes, settings)?;
         Ok(reply)
     }
 
     /// A worker turns to the connection of this number.
     fn run(&mut self, number: u64, at: u64, settings: &Settings) -> Result<Reply, AllocError>
-        requires { settings.now.limits.max_fields ≤ 100 }
-        ensures { IfOk result (λ r. AnswersAt settings.now.limits (rules_of settings.now.rule) at number turned self.old r self.new) }
+        ensures { IfOk result (λ r. AnswersAt settings.now at number turned self.old r self.new) }
     {
         if self.number != number {
             return Ok(Reply::NoConn);
         }
-        let reply = self.connection.run(at, &settings.limits, settings.rule)?;
+        let reply = self.connection.run(at, settings)?;
         Ok(reply)
     }
 
@@ -61,26 +58,16 @@ impl Admitted {
         bytes: &[u8],
         settings: &Settings,
     ) -> Result<Reply, AllocError>
-        requires limits { settings.now.limits.max_fields ≤ 100 }
         requires within { IsWithinBytes act bytes.now }
         requires moment { at ≤ GREATEST_MOMENT }
-        ensures { IfOk result (λ r. AnswersAt settings.now.limits (rules_of settings.now.rule) at number (acted act bytes.now) self.old r self.new) }
+        ensures { IfOk result (λ r. AnswersAt settings.now at number (acted act bytes.now) self.old r self.new) }
     {
         if self.number != number {
             return Ok(Reply::NoConn);
         }
-        let reply = self
-            .connection
-            .act(at, act, bytes, &settings.limits, settings.rule)?;
+        let reply = self.connection.act(at, act, bytes, settings)?;
         Ok(reply)
     }
-}
-
-/// What a connector is set to.
-#[derive(Clone, Copy, Debug, PartialEq, Eq)]
-pub struct Settings {
-    pub limits: Limits,
-    pub rule: DefaultRule,
 }
 
 /// The settings, the moment, and the connection that was admitted.
@@ -94,7 +81,7 @@ pub struct Connector {
 impl Connector {
     ghost use Rattle.cy_event.specs.declared.steps.Reply.TheVariants as reply;
     ghost use Rattle.cy_model.specs.Entries.{acted, tick, told, turned};
-    ghost use Rattle.cyctl.specs.Connecting.{Admits, AnswersOwn, CanTake, Ticks, StandsFor, TakesStep, rules_of};
+    ghost use Rattle.cyctl.specs.Connecting.{Admits, AnswersOwn, CanTake, Ticks, StandsFor, TakesStep};
 
     /// A connector to which nothing has happened.
     pub fn new(settings: Settings) -> Connector
@@ -111,8 +98,7 @@ impl Connector {
 
     /// The socket of a connection tells something.
     fn event(&mut self, number: u64, event: Event, bytes: &[u8]) -> Result<Reply, AllocError>
-        requires { self.old.settings.limits.max_fields ≤ 100 }
-        ensures answers { IfOk result (λ r. AnswersOwn self.old.settings.limits (rules_of self.old.settings.rule) self.old.moment number (told event bytes.now) self.old.admitted r self.new.admitted) }
+        ensures answers { IfOk result (λ r. AnswersOwn self.old.settings self.old.moment number (told event bytes.now) self.old.admitted r self.new.admitted) }
         ensures settings { self.new.settings ≡ self.old.settings }
         ensures moment { self.new.moment ≡ self.old.moment }
     {
@@ -126,8 +112,7 @@ impl Connector {
 
     /// A worker turns to a connection.
     fn run(&mut self, number: u64) -> Result<Reply, AllocError>
-        requires { self.old.settings.limits.max_fields ≤ 100 }
-        ensures answers { IfOk result (λ r. AnswersOwn self.old.settings.limits (rules_of self.old.settings.rule) self.old.moment number turned self.old.admitted r self.new.admitted) }
+        ensures answers { IfOk result (λ r. AnswersOwn self.old.settings self.old.moment number turned self.old.admitted r self.new.admitted) }
         ensures settings { self.new.settings ≡ self.old.settings }
         ensures moment { self.new.moment ≡ self.old.moment }
     {
@@ -141,10 +126,9 @@ impl Connector {
 
     /// The callback that runs on a connection acts.
     fn act(&mut self, number: u64, act: Act, bytes: &[u8]) -> Result<Reply, AllocError>
-        requires limits { self.old.settings.limits.max_fields ≤ 100 }
         requires within { IsWithinBytes act bytes.now }
         requires moment { self.old.moment ≤ GREATEST_MOMENT }
-        ensures answers { IfOk result (λ r. AnswersOwn self.old.settings.limits (rules_of self.old.settings.rule) self.old.moment number (acted act bytes.now) self.old.admitted r self.new.admitted) }
+        ensures answers { IfOk result (λ r. AnswersOwn self.old.settings self.old.moment number (acted act bytes.now) self.old.admitted r self.new.admitted) }
         ensures settings { self.new.settings ≡ self.old.settings }
         ensures moment { self.new.moment ≡ self.old.moment }
     {
@@ -158,9 +142,8 @@ impl Connector {
 
     /// The clock stands at a moment.
     fn tick(&mut self, at: u64) -> Reply
-        requires { self.old.settings.limits.max_fields ≤ 100 }
         ensures reply { result ≡ reply.Done }
-        ensures ticks { Ticks self.old.settings.limits (rules_of self.old.settings.rule) at self.old.admitted self.new.admitted }
+        ensures ticks { Ticks self.old.settings at self.old.admitted self.new.admitted }
         ensures settings { self.new.settings ≡ self.old.settings }
         ensures moment { self.new.moment ≡ at }
     {
@@ -168,37 +151,28 @@ impl Connector {
         let Some(mut admitted) = self.admitted.take() else {
             return Reply::Done;
         };
-        admitted
-            .connection
-            .tick(at, &self.settings.limits, self.settings.rule);
+        admitted.connection.tick(at, &self.settings);
         self.admitted = Some(admitted);
         Reply::Done
     }
 
     /// A connection asks to be admitted, where none was.
     fn admit(&mut self, alloc: Global, number: u64) -> Reply
-        requires limits { self.old.settings.limits.max_fields ≤ 100 }
         requires none { self.old.admitted ≡ None }
-        ensures admits { Admits self.old.settings.limits (rules_of self.old.settings.rule) self.old.moment number result self.new.admitted }
+        ensures admits { Admits self.old.settings self.old.moment number result self.new.admitted }
         ensures settings { self.new.settings ≡ self.old.settings }
         ensures moment { self.new.moment ≡ self.old.moment }
     {
         if self.settings.limits.max_connections == 0 {
             return Reply::Full(0);
         }
-        let connection = Connection::open(
-            alloc,
-            self.moment,
-            &self.settings.limits,
-            self.settings.rule,
-        );
+        let connection = Connection::open(alloc, self.moment, &self.settings);
         self.admitted = Some(Admitted { number, connection });
         Reply::Entered
     }
 
     /// One step. Its reply is the definition's, for every list of steps that the connector stands for.
     pub fn step(&mut self, alloc: Global, step: &Step) -> Result<Reply, AllocError>
-        requires limits { self.old.settings.limits.max_fields ≤ 100 }
         requires moment { self.old.moment ≤ GREATEST_MOMENT }
         requires step { CanTake step.now self.old.admitted }
         ensures takes { IfOk result (λ r. (w : List AnyStep) → StandsFor w self.old → TakesStep w step.now self.old r self.new) }

@@ -8,31 +8,36 @@ mod connector;
 mod date;
 mod heads;
 mod input;
+mod laws;
 mod output;
 mod report;
 mod run;
+mod settings;
 mod tool;
 
 use input::StdSource;
 use output::StdSink;
-use std::alloc::{AllocError, Global};
-use std::env;
+use std::io::ErrorKind;
 use std::process::ExitCode;
-use tool::tool;
+use std::{env, io};
+use tool::{Refusal, refuse, tool};
 
-/// The words of the command line. Where they can't be had there are none.
-fn words(rt: &HostRuntime) -> Result<Vec<String>, AllocError> {
-    match env::args(rt) {
-        Ok(args) => args.skip(1).collect(rt.alloc()),
-        Err(_) => Ok(Vec::new(rt.alloc())),
-    }
+/// The words of the command line.
+fn words(rt: &HostRuntime) -> io::Result<Vec<String>> {
+    let words = env::args(rt)?.skip(1).collect(rt.alloc())?;
+    Ok(words)
 }
 
 fn main(rt: HostRuntime) -> ExitCode {
-    let Ok(words) = words(&rt) else {
-        return ExitCode::from(6);
-    };
     let mut source = StdSource::new(rt.stdin());
     let mut sink = StdSink::new(rt.stdout());
+    let words = match words(&rt) {
+        Ok(words) => words,
+        Err(error) if error.kind() == ErrorKind::OutOfMemory => {
+            return ExitCode::from(refuse(&mut sink, Refusal::NoMemory));
+        }
+        // Words that are no text are none of the forms.
+        Err(_) => Vec::new(rt.alloc()),
+    };
     ExitCode::from(tool(rt.alloc(), &words, &mut source, &mut sink))
 }

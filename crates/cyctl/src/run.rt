@@ -3,9 +3,11 @@ ghost use Rattle.std.specs.Prelude.{◌≡◌, ◌≤◌, List, [], ◌∷◌, �
 ghost use Rattle.cy_event.specs.declared.limits.TheConstants.{GREATEST_MOMENT};
 ghost use Rattle.cy_event.specs.declared.steps.Step.{Step as AnyStep};
 ghost use Rattle.cy_model.specs.Connections.{replies};
-ghost use Rattle.cyctl.specs.Connecting.{AdmitFirst, AreCalm, StandsFor, rules_of};
+ghost use Rattle.cyctl.specs.Answered.{rules_of};
+ghost use Rattle.cyctl.specs.Connecting.{AdmitFirst, AreCalm, StandsFor};
 
-use crate::connector::{Connector, Settings};
+use crate::connector::Connector;
+use crate::settings::Settings;
 use cy_event::{Reply, Step};
 use std::alloc::{AllocError, Global};
 
@@ -18,9 +20,8 @@ pub struct Run {
 
 /// Takes the steps, of which the first alone may admit a connection.
 pub fn run_steps(alloc: Global, settings: Settings, steps: &[Step]) -> Result<Run, AllocError>
-    requires limits { settings.limits.max_fields ≤ 100 }
-    requires steps { AdmitFirst steps.now }
-    ensures replies { IfOk result (λ run. run.replies.items ≡ replies settings.limits (rules_of settings.rule) (reverse steps.now)) }
+    requires { AdmitFirst steps.now }
+    ensures replies { IfOk result (λ run. run.replies.items ≡ replies settings.limits (rules_of settings) (reverse steps.now)) }
     ensures stands { IfOk result (λ run. StandsFor (reverse steps.now) run.connector) }
     ensures settings { IfOk result (λ run. run.connector.settings ≡ settings) }
 {
@@ -37,12 +38,12 @@ pub fn run_steps(alloc: Global, settings: Settings, steps: &[Step]) -> Result<Ru
 }
 
 impl Run {
+    ghost use Rattle.cyctl.specs.Answered.{rules_of};
     ghost use Rattle.cyctl.specs.Connecting.{CanTake};
     ghost use Rattle.cyctl.specs.Running.{RunsTo};
 
     /// Takes one more step.
     fn take(&mut self, alloc: Global, step: &Step) -> Result<(), AllocError>
-        requires limits { self.old.connector.settings.limits.max_fields ≤ 100 }
         requires moment { self.old.connector.moment ≤ GREATEST_MOMENT }
         requires step { CanTake step.now self.old.connector.admitted }
         ensures runs { IfOk result (λ _. (w : List AnyStep) → RunsTo w self.old → RunsTo (step.now ∷ w) self.new) }
@@ -56,7 +57,6 @@ impl Run {
 
     /// Takes steps that admit nobody.
     fn take_all(&mut self, alloc: Global, steps: &[Step]) -> Result<(), AllocError>
-        requires limits { self.old.connector.settings.limits.max_fields ≤ 100 }
         requires moment { self.old.connector.moment ≤ GREATEST_MOMENT }
         requires steps { AreCalm steps.now }
         ensures runs { IfOk result (λ _. (w : List AnyStep) → RunsTo w self.old → RunsTo (reverse steps.now ++ w) self.new) }

@@ -1,20 +1,20 @@
 //! The program, over any source and any sink.
-ghost use Rattle.std.specs.Prelude.{◌≡◌, ◌≢◌, ◌↔◌, ◌≤◌, ◌<◌, ◌⊎◌, ℕ, List, Some, None, IfOk, IfSome, OnErr, OnOk, ◌++◌, OnOk, ◌++◌, IsSome, IsTrue, map, string_bytes};
+ghost use Rattle.std.specs.Prelude.{◌≡◌, ◌≢◌, ◌↔◌, ◌≤◌, ◌<◌, ◌⊎◌, ◌++◌, Some, None, IfOk, OnErr, OnOk, IsTrue};
 ghost use Rattle.std.specs.Io.KnownBytes.{Appends};
 ghost use Rattle.cy_link.specs.Causes.{Rose};
 ghost use Rattle.cyctl.specs.Connecting.{AdmitFirst, admitted_text};
 ghost use Rattle.cyctl.specs.declared.tool.Refusal.TheVariants.{NoMemory};
 ghost use Rattle.cyctl.specs.Causes.{ReadsAll, WasRead, WritesFront};
-ghost use Rattle.cyctl.specs.Tool.{HasNotRisen, IsInForm, IsOutside, IsReplay, IsReplayStatus, IsTold, Reports, WritesReport, WritesReportFront, Tells, come_in_heads, message_of, refusal_for, refusal_of, status_of, is_one_head, no_memory, refused_script, replayed, report_of, source_fault, steps_of, too_large, usage};
+ghost use Rattle.cyctl.specs.Tool.{HasNotRisen, IsInForm, IsOutside, IsReplay, IsReplayStatus, IsTold, Reports, WritesReport, WritesReportFront, Tells, come_in_heads, message_of, refusal_for, refusal_of, status_of, is_one_plain_head, no_memory, refused_script, replayed, report_of, source_fault, steps_of, too_large, usage};
 ghost use Rattle.cyctl.specs.declared.input.TheConstants.{GREATEST_INPUT};
 
-use crate::connection::DefaultRule;
-use crate::connector::{Admitted, Connector, Settings};
+use crate::connector::{Admitted, Connector};
 use crate::heads::{FoundHead, find_head};
 use crate::input::{InputFault, read_all};
 use crate::output::write_all;
 use crate::report::{push_connection, push_reply_lines};
 use crate::run::{Run, run_steps};
+use crate::settings::{DefaultRule, Settings};
 use cy_event::{Limits, Step};
 use cy_link::{Sink, Source};
 use cy_script::{ScriptFault, read_script};
@@ -33,11 +33,12 @@ fn is_replay(words: &Vec<String>) -> bool
 }
 
 /// Whether the bytes are exactly one plain head.
-#[tactic(auto, unfolding(crate::specs::Tool::is_one_head))]
-fn is_one_head(bytes: &[u8]) -> bool
-    ensures { result ≡ is_one_head bytes.now }
+#[tactic(auto, unfolding(crate::specs::Tool::is_one_plain_head))]
+fn is_one_plain_head(bytes: &[u8]) -> bool
+    ensures { result ≡ is_one_plain_head bytes.now }
 {
-    match find_head(bytes, 8192, 100) {
+    let limits = Limits::standard(1);
+    match find_head(bytes, limits.max_head, limits.max_fields) {
         FoundHead::Head {
             length,
             plain: true,
@@ -52,7 +53,7 @@ fn come_in_heads(steps: &[Step]) -> bool
 {
     for step in steps {
         if let Step::On { bytes, .. } = step {
-            if !is_one_head(bytes.as_slice()) {
+            if !is_one_plain_head(bytes.as_slice()) {
                 return false;
             }
         }
@@ -216,6 +217,16 @@ fn tell<K: Sink>(sink: &mut K, text: &[u8])
     let _ = write_all(sink, text);
 }
 
+/// Tells why there is no report. The answer is the status.
+pub fn refuse<K: Sink>(sink: &mut K, refusal: Refusal) -> u8
+    ensures status { result ≡ status_of refusal }
+    ensures told { Tells (K.held sink.old) (K.held sink.new) (K.faults sink.old) (K.faults sink.new) (message_of refusal) }
+    ensures later { K.faults sink.old ≤ K.faults sink.new }
+{
+    tell(sink, refusal.message());
+    refusal.status()
+}
+
 /// Replays the script that the source has: its report is written, or why there is none. The answer is the status.
 fn replay<S: Source, K: Sink>(alloc: Global, source: &mut S, sink: &mut K) -> u8
     ensures report { result ≡ 0 → WritesReport (S.left source.old) (S.left source.new) (K.held sink.old) (K.held sink.new) }
@@ -233,10 +244,7 @@ fn replay<S: Source, K: Sink>(alloc: Global, source: &mut S, sink: &mut K) -> u8
             Ok(()) => 0,
             Err(_) => 5,
         },
-        Err(refusal) => {
-            tell(sink, refusal.message());
-            refusal.status()
-        }
+        Err(refusal) => refuse(sink, refusal),
     }
 }
 

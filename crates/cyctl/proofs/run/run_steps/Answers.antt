@@ -2,9 +2,9 @@ use Rattle.std.proofs.Common.{List, [], ◌∷◌, reverse, sym, ap, ◌∙◌, 
 use Rattle.std.proofs.lemmas.List.{reverse-append}
 use Rattle.cy_event.specs.declared.steps.Step.{Step}
 use Rattle.cy_model.specs.Connections.{replies}
-use Rattle.cyctl.specs.Connecting.{rules_of}
+use Rattle.cyctl.specs.Answered.{rules_of}
 use Rattle.cyctl.specs.Running.{RunsTo}
-use Rattle.cyctl.specs.declared.connector.Settings.{Settings}
+use Rattle.cyctl.specs.declared.settings.Settings.{Settings}
 use Rattle.cyctl.proofs.run.run_steps.Goals as goal
 
 -- the run has taken all steps
@@ -23,5 +23,5 @@ returns-clause-stands c = (whole c).stands
 pub returns-clause-replies : goal.returns-clause-replies
 returns-clause-replies c =
     (whole c).replies
-    ∙ ap (λ (s : Settings). replies s.limits (rules_of s.rule) (reverse c.args.steps.now))
+    ∙ ap (λ (s : Settings). replies s.limits (rules_of s) (reverse c.args.steps.now))
     (c.in_ok-take_all.ensures.settings ∙ c.in_ok-take.ensures.settings ∙ c.new-2.ensures.settings)

@@ -7,8 +7,8 @@ use Rattle.cyctl.proofs.connection.Connection.run.Goals as goal
 
 pub returns : goal.returns
 returns c =
-    let limits = c.args.limits.now in
-    let rule = c.args.rule in
+    let limits = c.args.settings.now.limits in
+    let rule = c.args.settings.now.rule in
     λ T s. answers_as limits _ c.args.at T _ _ _ _ _ _ refl
     (c.in_ok-reply.ensures.reply ∙ ap (λ (q : Parts). job_reply (job_of q)) c.settle.ensures)
     (c.in_ok-reply.ensures.begun ∙ ap (λ (q : Parts). after_job (job_of q) q) c.settle.ensures)
