@@ -117,11 +117,15 @@ charts T = if is_open T then ended_charts T ++ calls T ∷ [] else ended_charts 
 
 -- ---- the output
 
--- All bytes of all answers: an answer is finished as its request ends, with the Date of that moment. Every answer
--- leaves its connection open so far.
+-- What the end of a request adds, at its moment: its whole answer, or nothing once the connection is broken. Every
+-- answer leaves its connection open so far.
+abbrev pub finish_by : Bool → Answer → ℕ → List ℕ
+finish_by is_broken a t = if is_broken then [] else answer_text a t silent
+
+-- all bytes of all answers
 abbrev pub output : Trace → List ℕ
 output [] = []
-output ((t, over) ∷ T) = output T ++ answer_text (answer_of T) t silent
+output ((t, over) ∷ T) = output T ++ finish_by (is_broken T) (answer_of T) t
 output ((t, m) ∷ T) = output T
 
 -- how many of them the socket took

@@ -5,11 +5,11 @@ use Rattle.cy_event.specs.declared.steps.Call.TheVariants as call
 use Rattle.cy_event.specs.declared.steps.Job.{Job}
 use Rattle.cy_event.specs.declared.steps.Job.TheVariants as job
 use Rattle.cy_event.specs.declared.steps.State.TheVariants as state
-use Rattle.cy_event.specs.Answers.{fresh_answer, after_put, answer_text, silent}
+use Rattle.cy_event.specs.Answers.{fresh_answer, after_put}
 use Rattle.cy_event.specs.Heads.{Front, awaited, found, malformed, head_of, is_plain}
 use Rattle.cy_event.specs.Table.{next_state}
 use Rattle.cy_model.specs.Entries.{room_by}
-use Rattle.cy_model.specs.Folds.{unsent_by}
+use Rattle.cy_model.specs.Folds.{finish_by, unsent_by}
 use Rattle.cy_model.specs.Jobs.{job_by}
 use Rattle.cy_model.specs.Settling.{may_begin_by}
 use Rattle.cyctl.specs.Parts.{Parts}
@@ -107,5 +107,5 @@ after_return t p = record p {
   state = state.Dispatched;
   answer = fresh_answer;
   ended_charts = p.ended_charts ++ (p.calls ++ call.Return ∷ []) ∷ [];
-  output = p.output ++ answer_text p.answer t silent;
+  output = p.output ++ finish_by p.is_broken p.answer t;
 }

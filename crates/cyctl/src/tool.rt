@@ -1,5 +1,5 @@
 //! The program, over any source and any sink.
-ghost use Rattle.std.specs.Prelude.{◌≡◌, ◌≢◌, ◌↔◌, ◌≤◌, ◌<◌, ◌⊎◌, ◌++◌, Some, None, IfOk, OnErr, OnOk, IsTrue};
+ghost use Rattle.std.specs.Prelude.{◌≡◌, ◌≢◌, ◌↔◌, ◌≤◌, ◌<◌, ◌⊎◌, ◌++◌, Some, None, IfOk, IsTrue, MatchResult, OnErr, OnOk, false, true};
 ghost use Rattle.std.specs.Io.KnownBytes.{Appends};
 ghost use Rattle.cy_link.specs.Causes.{Rose};
 ghost use Rattle.cyctl.specs.Connecting.{AdmitFirst, admitted_text};
@@ -180,6 +180,18 @@ fn report(alloc: Global, steps: &[Step]) -> Result<Vec<u8>, AllocError>
     Ok(text)
 }
 
+/// Refuses steps by which something comes in that isn't one plain head.
+fn in_heads(steps: &[Step]) -> Result<(), Refusal>
+    ensures { MatchResult result (λ _. come_in_heads steps.now ≡ true)
+        (λ refusal. (refusal ≡ Refusal.Script) × (come_in_heads steps.now ≡ false)) }
+{
+    if come_in_heads(steps) {
+        Ok(())
+    } else {
+        Err(Refusal::Script)
+    }
+}
+
 /// The report of an input.
 #[tactic(auto, unfolding(crate::specs::Tool::steps_of))]
 fn report_input(alloc: Global, input: &[u8]) -> Result<Vec<u8>, Refusal>
@@ -189,9 +201,7 @@ fn report_input(alloc: Global, input: &[u8]) -> Result<Vec<u8>, Refusal>
 {
     let script = read_script(alloc, input)?;
     let steps = script.steps.as_slice();
-    if !come_in_heads(steps) {
-        return Err(Refusal::Script);
-    }
+    in_heads(steps)?;
     let text = report(alloc, steps)?;
     Ok(text)
 }

@@ -154,3 +154,38 @@ fn greatest_size(rt: HostRuntime) -> Result<(), Fail> {
     }
     Ok(())
 }
+
+/// A script of the form in which something else than one plain head comes in.
+#[test]
+fn other_heads(rt: HostRuntime) -> Result<(), Fail> {
+    let texts = [
+        "",
+        "GET / HTTP/1.1\\r\\nHost: a\\r\\n",
+        "GET / HTTP/1.1\\r\\nHost: a\\r\\n\\r\\nG",
+        "GET / HTTP/1.1\\r\\nHost: a\\r\\n\\r\\nGET / HTTP/1.1\\r\\nHost: a\\r\\n\\r\\n",
+        "GET / HTTP/1.1\\r\\n\\r\\n",
+        "GET / HTTP/1.0\\r\\nHost: a\\r\\n\\r\\n",
+        "POST / HTTP/1.1\\r\\nHost: a\\r\\n\\r\\n",
+        "GET /b HTTP/1.1\\r\\nHost: a\\r\\n\\r\\n",
+        "GET / HTTP/1.1\\r\\nHost: a\\r\\nconnection: close\\r\\n\\r\\n",
+        "GET / HTTP/1.1\\r\\nHost: a\\r\\nContent-Length: 0\\r\\n\\r\\n",
+    ];
+    for text in texts {
+        let script = format!(in rt.alloc();
+            "coyote-script 1\nrule / 0 async\nadmit 1\nin 1 \"{text}\"\nrun 1\nact 1 write \"hello\"\nreturn 1\n"
+        )?;
+        let outside = Outside {
+            reads: (64, None),
+            writes: (64, None),
+        };
+        let (status, written) = play(
+            rt.alloc(),
+            &["replay"],
+            script.as_bytes().to_vec(rt.alloc())?,
+            outside,
+        )?;
+        assert_eq!(rt; status, 3, "{text}");
+        assert_eq!(rt; written.as_slice(), b"refused: script\n".as_slice());
+    }
+    Ok(())
+}
