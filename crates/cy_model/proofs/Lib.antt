@@ -4,3 +4,4 @@ pub mod Settlings
 pub mod DatesCounted
 pub mod DatesStated
 pub mod DatesWritten
+pub mod LegalRuns

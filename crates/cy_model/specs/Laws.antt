@@ -7,8 +7,11 @@ use Rattle.cy_event.specs.declared.steps.Step.{Step}
 use Rattle.cy_event.specs.declared.steps.Step.TheVariants as step
 use Rattle.cy_event.specs.Limits.{standard}
 use Rattle.cy_event.specs.Mapping.{Rule}
+use Rattle.cy_model.specs.Connections.{connections}
 use Rattle.cy_model.specs.Marks.{Trace}
 use Rattle.cy_model.specs.Reports.{report}
+use Rattle.cy_model.specs.Runs.{IsLegalRun, answered}
+use Rattle.cy_model.specs.Steps.{IsValid}
 use Rattle.cy_model.specs.Settling.{next_move, settle_step, settled, rested_and_taken_up}
 
 -- no move applies to a settled trace
@@ -44,3 +47,14 @@ example_report =
 -- its report is what the definitions compute
 abbrev pub ExampleIsReported : Type 0
 ExampleIsReported = report (standard 1) one_rule example_steps ≡ example_report
+
+-- ---- runs
+
+-- this holds of each
+abbrev pub Each : {X : Type 0} → (X → Type 0) → List X → Type 0
+Each P [] = Unit {0}
+Each P (x ∷ xs) = P x × Each P xs
+
+-- whatever the valid steps of a connector are, the own entries of each connection, so answered, are a legal run
+abbrev pub RunsAreLegal : Type 0
+RunsAreLegal = (limits : Limits) (rules : List Rule) (w : List Step) → IsValid w → Each (λ h. IsLegalRun limits rules (answered limits rules h.entries)) (connections limits rules w)

@@ -32,3 +32,10 @@ pub record GoesOn (limits : Limits) (rules : List Rule) (before : List Answered)
 abbrev pub IsLegalRun : Limits → List Rule → List Answered → Type 0
 IsLegalRun limits rules [] = Unit {0}
 IsLegalRun limits rules (a ∷ before) = IsLegalRun limits rules before × GoesOn limits rules before a
+
+-- entries with the replies of the definitions
+abbrev pub answered : Limits → List Rule → List (ℕ × Entry) → List Answered
+answered limits rules [] = []
+answered limits rules ((t, e) ∷ entries) =
+    record { moment = t; entry = e; reply = reply_to limits rules t (trace_of limits rules entries) e }
+    ∷ answered limits rules entries

@@ -1,5 +1,5 @@
 //! Laws of the definitions: a function without parameters and without a body has the law as its contract.
-ghost use Rattle.cy_model.specs.Laws.{ExampleIsReported, SettlingGoesOn, SettlingIsTwoWords, SettlingRests};
+ghost use Rattle.cy_model.specs.Laws.{ExampleIsReported, RunsAreLegal, SettlingGoesOn, SettlingIsTwoWords, SettlingRests};
 
 /// No move applies to what is settled.
 pub fn settling_rests()
@@ -19,4 +19,10 @@ pub fn settling_is_two_words()
 /// The worked example is reported as the README shows it.
 pub fn example_is_reported()
     ensures { ExampleIsReported }
+{}
+
+/// The own entries of each connection, with the replies of the definitions, are a legal run, whatever the valid steps
+/// of the connector are.
+pub fn runs_are_legal()
+    ensures { RunsAreLegal }
 {}
