@@ -76,3 +76,14 @@ fn faults_are_printed(rt: HostRuntime) -> Result<(), Fail> {
     );
     Ok(())
 }
+
+/// A law says all in its contract; a call shows that nothing is asked of the caller.
+#[test]
+fn laws_ask_for_nothing(_rt: HostRuntime) -> Result<(), Fail> {
+    unquote_undoes_quote();
+    quoted_text_is_a_spelling();
+    reading_is_spelling();
+    one_reading();
+    one_first_fault();
+    Ok(())
+}

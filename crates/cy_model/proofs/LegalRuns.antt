@@ -5,7 +5,7 @@ use Rattle.cy_event.specs.declared.steps.Step.{Step}
 use Rattle.cy_event.specs.declared.steps.Step.TheVariants as step
 use Rattle.cy_event.specs.Mapping.{Rule}
 use Rattle.cy_model.specs.Connections.{History, add_own, admits, connections, moment, with_entry}
-use Rattle.cy_model.specs.Entries.{Entry, acted, opening, reply_to, tick, told, trace_of, turned}
+use Rattle.cy_model.specs.Entries.{Entry, on_act, opening, reply_to, tick, on_event, trace_of, on_run}
 use Rattle.cy_model.specs.Laws.{Each, RunsAreLegal}
 use Rattle.cy_model.specs.Runs.{IsLegalRun, answered, entry_of, last_moment}
 use Rattle.cy_model.specs.Steps.{IsValid}
@@ -96,11 +96,11 @@ connections_are_ordered limits rules (step.Admit c ∷ w) v =
       | false ↦ before
     ]
 connections_are_ordered limits rules (step.On c e b ∷ w) v =
-    owned_are_ordered (moment w) c (told e b) (connections limits rules w) (λ q. cc) (connections_are_ordered limits rules w v.0)
+    owned_are_ordered (moment w) c (on_event e b) (connections limits rules w) (λ q. cc) (connections_are_ordered limits rules w v.0)
 connections_are_ordered limits rules (step.Run c ∷ w) v =
-    owned_are_ordered (moment w) c turned (connections limits rules w) (λ q. cc) (connections_are_ordered limits rules w v.0)
+    owned_are_ordered (moment w) c on_run (connections limits rules w) (λ q. cc) (connections_are_ordered limits rules w v.0)
 connections_are_ordered limits rules (step.Act c a b ∷ w) v =
-    owned_are_ordered (moment w) c (acted a b) (connections limits rules w) (λ q. cc) (connections_are_ordered limits rules w v.0)
+    owned_are_ordered (moment w) c (on_act a b) (connections limits rules w) (λ q. cc) (connections_are_ordered limits rules w v.0)
 
 -- ---- the law
 

@@ -5,3 +5,6 @@ pub mod DatesCounted
 pub mod DatesStated
 pub mod DatesWritten
 pub mod LegalRuns
+pub mod TraceInduction
+pub mod Counts
+pub mod Histories

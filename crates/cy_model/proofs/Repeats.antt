@@ -50,6 +50,15 @@ until_none-step size f falls zero m s r e small fits = absurd (omega (arith, fal
 until_none-step size f falls (suc n) m s r e small fits =
     until_none-some f n s r e ∙ until_none-bound size f falls n m r (omega (arith, falls s r e)) fits
 
+-- what each step keeps is kept
+pub until_none-keeps : {S : Type 0} (P : S → Type 0) (f : S → Option S) → ((s r : S) → f s ≡ Some r → P s → P r) → (n : ℕ) (s : S) → P s → P (until_none f n s)
+until_none-keeps P f keeps zero s p = p
+until_none-keeps {S} P f keeps (suc n) s p =
+    elim (f s) as (λ o. f s ≡ o → P (until_none f (suc n) s)) [
+      | None ↦ λ e. subst P (sym (until_none-none f (suc n) s e)) p
+      | Some r ↦ λ e. subst P (sym (until_none-some f n s r e)) (until_none-keeps P f keeps n r (keeps s r e p))
+    ] refl
+
 -- ---- two steps in turn
 
 -- a step that is the first of two that applies

@@ -5,9 +5,9 @@ use Rattle.cy_event.specs.Heads.{Head, Front, awaited, found, malformed, head_of
 use Rattle.cy_event.specs.Mapping.{Rule}
 use Rattle.std.proofs.lemmas.List.{drop-drop}
 use Rattle.cy_event.proofs.Fronts.{front_length-bounds, head_of-found}
-use Rattle.cy_model.proofs.Repeats.{Falls, IsFirstOf, until_none-none, until_none-rests, until_none-bound, until_none-step, until_none-first, until_none-size, until_none-second}
+use Rattle.cy_model.proofs.Repeats.{Falls, IsFirstOf, until_none-none, until_none-rests, until_none-bound, until_none-step, until_none-first, until_none-size, until_none-second, until_none-keeps}
 use Rattle.cy_model.specs.Folds.{bytes_of, consumed, unread}
-use Rattle.cy_model.specs.Marks.{Mark, began, Taken, Trace}
+use Rattle.cy_model.specs.Marks.{Mark, began, TakenUp, Trace}
 use Rattle.cy_model.specs.Settling.{with_marks, Move, first_move, after_move, begin_by, may_begin, take_up_front, head_move, next_move, quiet_step, settle_step, enough_moves, rested, taken_up, settled, rested_and_taken_up, rule_for}
 
 -- what is left to do: the bytes that wait
@@ -21,14 +21,14 @@ left_to_do-bound T = omega (arith, length-drop (consumed T) (bytes_of T))
 -- ---- what a head move is
 
 -- a front at a place begins a request, which takes it
-begin_by-some : (place size : ℕ) (h : Head) (o : Option Rule) (ms : List Mark) → begin_by place size h o ≡ Some ms → (r : Taken) × (ms ≡ began r ∷ []) × (r.place ≡ place) × (r.size ≡ size)
+begin_by-some : (place size : ℕ) (h : Head) (o : Option Rule) (ms : List Mark) → begin_by place size h o ≡ Some ms → (r : TakenUp) × (ms ≡ began r ∷ []) × (r.place ≡ place) × (r.size ≡ size)
 begin_by-some place size h None ms e = cc
 begin_by-some place size h (Some r) ms e = (record { place = place; size = size; head = h; part = r.part; can_async = r.can_async }, cc, refl, refl)
 
 -- the head that was found, and the request that it begins
 pub record Begins (limits : Limits) (T : Trace) (ms : List Mark) : Type 0 where
   pub head : Head
-  pub request : Taken
+  pub request : TakenUp
   pub front : head_of limits.max_head limits.max_fields (unread T) ≡ found request.size head
   pub place : request.place ≡ consumed T
   pub marks : ms ≡ began request ∷ []
@@ -51,7 +51,7 @@ head_move-some limits rules T ms e =
 -- ---- each move leaves less to do
 
 -- what waits after a head was taken up
-pub unread-began : (t : ℕ) (T : Trace) (r : Taken) → r.place ≡ consumed T → unread ((t, began r) ∷ T) ≡ drop r.size (unread T)
+pub unread-began : (t : ℕ) (T : Trace) (r : TakenUp) → r.place ≡ consumed T → unread ((t, began r) ∷ T) ≡ drop r.size (unread T)
 unread-began t T r e = ap (λ n. drop (n + r.size) (bytes_of T)) e ∙ sym (drop-drop r.size (consumed T) (bytes_of T))
 
 left_to_do-begins : (limits : Limits) (t : ℕ) (T : Trace) (ms : List Mark) → Begins limits T ms → left_to_do (with_marks t ms T) < left_to_do T
@@ -102,6 +102,16 @@ pub settled-step : (limits : Limits) (rules : List Rule) (t : ℕ) (T R : Trace)
 unfolding settled
 settled-step limits rules t T R e =
     until_none-step left_to_do (settle_step limits rules t) (settle_step-falls limits rules t) (enough_moves T) (enough_moves R) T R e (left_to_do-bound T) (left_to_do-bound R)
+
+-- what each begun request keeps is kept
+pub settled-keeps : (limits : Limits) (rules : List Rule) (t : ℕ) (P : Trace → Type 0) → ((T : Trace) (r : TakenUp) → P T → P ((t, began r) ∷ T)) → (T : Trace) → P T → P (settled limits rules t T)
+unfolding settled
+settled-keeps limits rules t P keeps T p =
+    until_none-keeps P (settle_step limits rules t) (λ S R e q.
+    let made = after_move-some t S R (head_move limits rules S) (sym ((settle_step-two limits rules t).after S refl) ∙ e) in
+    let begins = head_move-some limits rules S made.0 made.1 in
+    subst P (sym (made.2 ∙ ap (λ (ms : List Mark). with_marks t ms S) begins.marks)) (keeps S begins.request q))
+    (enough_moves T) T p
 
 -- nothing is done where no step applies
 pub settled-done : (limits : Limits) (rules : List Rule) (t : ℕ) (T : Trace) → settle_step limits rules t T ≡ None → settled limits rules t T ≡ T

@@ -6,7 +6,7 @@ use Rattle.cy_event.specs.declared.steps.Reply.TheVariants as reply
 use Rattle.cy_event.specs.declared.steps.Step.{Step}
 use Rattle.cy_event.specs.declared.steps.Step.TheVariants as step
 use Rattle.cy_event.specs.Mapping.{Rule}
-use Rattle.cy_model.specs.Entries.{Entry, opening, tick, told, turned, acted, trace_of, reply_to}
+use Rattle.cy_model.specs.Entries.{Entry, opening, tick, on_event, on_run, on_act, trace_of, reply_to}
 use Rattle.cy_model.specs.Folds.{is_gone}
 
 -- what a step is about: the clock, an admission, or one connection
@@ -18,9 +18,9 @@ pub data Kind : Type 0 where
 abbrev pub kind_of : Step → Kind
 kind_of (step.At t) = clock t
 kind_of (step.Admit c) = admission c
-kind_of (step.On c e b) = own c (told e b)
-kind_of (step.Run c) = own c turned
-kind_of (step.Act c a b) = own c (acted a b)
+kind_of (step.On c e b) = own c (on_event e b)
+kind_of (step.Run c) = own c on_run
+kind_of (step.Act c a b) = own c (on_act a b)
 
 -- steps are lists, the newest first; the moment after a step
 abbrev pub moment_after : Kind → ℕ → ℕ

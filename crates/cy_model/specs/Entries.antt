@@ -24,11 +24,11 @@ pub data Entry : Type 0 where
   -- the clock goes on
   tick : Entry
   -- its socket tells something; bytes stand beside the event
-  told : Event → List ℕ → Entry
+  on_event : Event → List ℕ → Entry
   -- a worker turns to it
-  turned : Entry
+  on_run : Entry
   -- its callback acts; bytes stand beside the act
-  acted : Act → List ℕ → Entry
+  on_act : Act → List ℕ → Entry
 
 -- ---- what is taken
 
@@ -95,9 +95,9 @@ after_turn t T S = with_marks t (job_marks (owed_after T S)) S
 unfoldable pub after : Limits → List Rule → ℕ → Trace → Entry → Trace
 after limits rules t T opening = settled limits rules t ((t, opened) ∷ T)
 after limits rules t T tick = settled limits rules t T
-after limits rules t T (told event.In b) = settled limits rules t ((t, came (take (room T) b)) ∷ T)
-after limits rules t T turned = after_turn t T (settled limits rules t T)
-after limits rules t T (acted a b) =
+after limits rules t T (on_event event.In b) = settled limits rules t ((t, came (take (room T) b)) ∷ T)
+after limits rules t T on_run = after_turn t T (settled limits rules t T)
+after limits rules t T (on_act a b) =
     if is_some (running T) then after_act limits rules t T (act_marks T a b) else T
 
 -- the trace of a connection's entries, the newest first, each with its moment
@@ -119,6 +119,6 @@ act_reply T act.Return = reply.Done
 unfoldable pub reply_to : Limits → List Rule → ℕ → Trace → Entry → Reply
 reply_to limits rules t T opening = reply.Entered
 reply_to limits rules t T tick = reply.Done
-reply_to limits rules t T (told event.In b) = reply.Taken (length (take (room T) b))
-reply_to limits rules t T turned = job_reply (owed_after T (settled limits rules t T))
-reply_to limits rules t T (acted a b) = if is_some (running T) then act_reply T a else reply.NotActive
+reply_to limits rules t T (on_event event.In b) = reply.Taken (length (take (room T) b))
+reply_to limits rules t T on_run = job_reply (owed_after T (settled limits rules t T))
+reply_to limits rules t T (on_act a b) = if is_some (running T) then act_reply T a else reply.NotActive

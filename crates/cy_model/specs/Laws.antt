@@ -1,5 +1,5 @@
 -- Laws of the definitions. Each is the contract of a public function without a body.
-use Rattle.std.specs.Prelude.{◌≡◌, ℕ, true, List, [], ◌∷◌, ◌++◌, codes, Some, None}
+use Rattle.std.specs.Prelude.{◌≡◌, ◌≤◌, ℕ, true, List, [], ◌∷◌, ◌++◌, codes, Some, None}
 use Rattle.cy_event.specs.declared.limits.Limits.{Limits}
 use Rattle.cy_event.specs.declared.steps.Act.TheVariants as act
 use Rattle.cy_event.specs.declared.steps.Event.TheVariants as event
@@ -7,7 +7,10 @@ use Rattle.cy_event.specs.declared.steps.Step.{Step}
 use Rattle.cy_event.specs.declared.steps.Step.TheVariants as step
 use Rattle.cy_event.specs.Limits.{standard}
 use Rattle.cy_event.specs.Mapping.{Rule}
-use Rattle.cy_model.specs.Connections.{connections}
+use Rattle.cy_event.specs.Table.{IsLegal}
+use Rattle.cy_model.specs.Connections.{connections, counted}
+use Rattle.cy_model.specs.Entries.{Entry, trace_of}
+use Rattle.cy_model.specs.Folds.{charts}
 use Rattle.cy_model.specs.Marks.{Trace}
 use Rattle.cy_model.specs.Reports.{report}
 use Rattle.cy_model.specs.Runs.{IsLegalRun, answered}
@@ -58,3 +61,11 @@ Each P (x ∷ xs) = P x × Each P xs
 -- whatever the valid steps of a connector are, the own entries of each connection, so answered, are a legal run
 abbrev pub RunsAreLegal : Type 0
 RunsAreLegal = (limits : Limits) (rules : List Rule) (w : List Step) → IsValid w → Each (λ h. IsLegalRun limits rules (answered limits rules h.entries)) (connections limits rules w)
+
+-- whatever the entries of a connection are, the calls of each of its requests are a legal history of the state table
+abbrev pub ChartsAreLegal : Type 0
+ChartsAreLegal = (limits : Limits) (rules : List Rule) (entries : List (ℕ × Entry)) → Each IsLegal (charts (trace_of limits rules entries))
+
+-- whatever the steps of a connector are, the limit of counted connections is kept
+abbrev pub LimitIsKept : Type 0
+LimitIsKept = (limits : Limits) (rules : List Rule) (w : List Step) → counted limits rules (connections limits rules w) ≤ limits.max_connections

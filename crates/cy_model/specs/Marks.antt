@@ -7,7 +7,7 @@ use Rattle.cy_event.specs.declared.steps.Job.{Job}
 use Rattle.cy_event.specs.Heads.{Head}
 
 -- what is settled as a head is taken up
-pub record Taken : Type 0 where
+pub record TakenUp : Type 0 where
   -- where it begins in the bytes that came, and how long it is with its empty line
   pub place : ℕ
   pub size : ℕ
@@ -29,7 +29,7 @@ pub data Mark : Type 0 where
   came : List ℕ → Mark
   sent : ℕ → Mark
   -- a head was taken up; one was refused with a status
-  began : Taken → Mark
+  began : TakenUp → Mark
   refused : ℕ → Mark
   -- an accepted call of the state table; a dispatch may name a component
   called : Call → Option ℕ → Mark
@@ -46,7 +46,7 @@ pub data Mark : Type 0 where
   put : List ℕ → Mark
   flushed : Mark
   -- an error answer of this status was put in place; the answer was broken off
-  failed : ℕ → Mark
+  error_answer : ℕ → Mark
   aborted : Mark
   -- the request has ended
   over : Mark

@@ -1,14 +1,11 @@
 -- The valid lists of steps, the newest first.
 use Rattle.std.specs.Prelude.{◌≤◌, ◌≢◌, ℕ, List, [], ◌∷◌, length}
+use Rattle.cy_event.specs.declared.limits.TheConstants.{GREATEST_MOMENT}
 use Rattle.cy_event.specs.declared.steps.Act.{Act}
 use Rattle.cy_event.specs.declared.steps.Act.TheVariants as act
 use Rattle.cy_event.specs.declared.steps.Step.{Step}
 use Rattle.cy_event.specs.declared.steps.Step.TheVariants as step
 use Rattle.cy_model.specs.Connections.{moment}
-
--- the last millisecond of the year 9999
-abbrev pub greatest_moment : ℕ
-greatest_moment = 253402300799999
 
 -- no earlier step admits the number
 abbrev pub IsNewNumber : ℕ → List Step → Type 0
@@ -23,7 +20,7 @@ IsWithinBytes act.Return b = Unit {0}
 
 -- A step may follow those before it: moments never fall, a number is admitted once, numbers are 1 or more.
 abbrev pub MayFollow : Step → List Step → Type 0
-MayFollow (step.At t) w = (moment w ≤ t) × (t ≤ greatest_moment)
+MayFollow (step.At t) w = (moment w ≤ t) × (t ≤ GREATEST_MOMENT)
 MayFollow (step.Admit c) w = (1 ≤ c) × IsNewNumber c w
 MayFollow (step.On c e b) w = 1 ≤ c
 MayFollow (step.Run c) w = 1 ≤ c

@@ -1,5 +1,5 @@
 //! Laws of the definitions: a function without parameters and without a body has the law as its contract.
-ghost use Rattle.cy_model.specs.Laws.{ExampleIsReported, RunsAreLegal, SettlingGoesOn, SettlingIsTwoWords, SettlingRests};
+ghost use Rattle.cy_model.specs.Laws.{ChartsAreLegal, ExampleIsReported, LimitIsKept, RunsAreLegal, SettlingGoesOn, SettlingIsTwoWords, SettlingRests};
 
 /// No move applies to what is settled.
 pub fn settling_rests()
@@ -25,4 +25,14 @@ pub fn example_is_reported()
 /// of the connector are.
 pub fn runs_are_legal()
     ensures { RunsAreLegal }
+{}
+
+/// The calls of each request are a legal history of the state table, whatever happened to its connection.
+pub fn charts_are_legal()
+    ensures { ChartsAreLegal }
+{}
+
+/// No more connections are counted than the limit allows, whatever the steps of the connector are.
+pub fn limit_is_kept()
+    ensures { LimitIsKept }
 {}

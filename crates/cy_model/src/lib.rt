@@ -4,3 +4,5 @@
 
 pub mod dates;
 pub mod laws;
+#[cfg(test)]
+mod tests;

@@ -1,6 +1,6 @@
 -- A script that is read is spelled so, and a script that is spelled so is read.
 use Rattle.std.proofs.Common.{◌≡◌, ℕ, ◌≤◌, Bool, true, false, cond, eqb, leb, List, [], ◌∷◌, ◌++◌, length, Option, Some, None, Result, Ok, Err, refl, sym, ap, subst, ◌∙◌}
-use Rattle.std.specs.Prelude.{codes, option_map}
+use Rattle.std.specs.Prelude.{codes, option_map, take}
 use Rattle.std.specs.Result.{result_ok}
 use Rattle.std.specs.Str.{bytes_eq}
 use Rattle.std.proofs.lemmas.Bool.{leb-true, le-leb}
@@ -185,14 +185,7 @@ read_is_script text steps h =
 
 -- the lines in front of the last
 front_lines : List ℕ → List ℕ → List (List ℕ)
-front_lines came written =
-    codes "coyote-script 1"
-    ∷ codes "rule / 0 async"
-    ∷ codes "admit 1"
-    ∷ (codes "in 1 \"" ++ came ++ codes "\"")
-    ∷ codes "run 1"
-    ∷ (codes "act 1 write \"" ++ written ++ codes "\"")
-    ∷ []
+front_lines came written = take 6 (form_lines came written)
 
 front_clean : (came written : List ℕ) → no_feed came ≡ true → no_feed written ≡ true → all_clean (front_lines came written) ≡ true
 unfolding front_lines
@@ -212,7 +205,7 @@ script_is_read text steps s =
     ∙ ap Some (sym s.its_steps)
 
 -- A text that is read has the steps of the form, and writes few enough bytes.
-pub read_has_form : (text : List ℕ) (steps : List Step) → script_of text ≡ Some steps → (came : List ℕ) × (written : List ℕ) × (steps ≡ form_steps came written) × (length written ≤ 8192)
+pub read_has_form : (text : List ℕ) (steps : List Step) → script_of text ≡ Some steps → (came : List ℕ) × (written : List ℕ) × (steps ≡ form_steps came written) × (length written ≤ most_written)
 read_has_form text steps h =
     let s = read_is_script text steps h in
     (s.came, s.written, s.its_steps, s.short)

@@ -3,7 +3,7 @@
 ghost use Rattle.std.specs.Prelude.{◌≡◌, ℕ, ◌≤◌, ◌↔◌, List, Some, codes, length};
 ghost use Rattle.cy_event.specs.declared.steps.Step.{Step};
 ghost use Rattle.cy_script.specs.Reading.{script_of};
-ghost use Rattle.cy_script.specs.Spelling.{form_steps, IsScriptText};
+ghost use Rattle.cy_script.specs.Spelling.{form_steps, most_written, IsScriptText};
 
 /// A text is read as steps exactly where it is a script of them.
 pub fn reading_is_spelling()
@@ -14,7 +14,7 @@ pub fn reading_is_spelling()
 /// What is read are the steps of the form, and few enough bytes are written.
 pub fn reading_has_the_form()
     ensures { (text : List ℕ) (steps : List Step) → script_of text ≡ Some steps →
-        (came written : List ℕ) × (steps ≡ form_steps came written) × (length written ≤ 8192) }
+        (came written : List ℕ) × (steps ≡ form_steps came written) × (length written ≤ most_written) }
 {}
 
 /// The script that serves one short answer.

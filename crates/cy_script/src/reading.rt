@@ -2,7 +2,7 @@
 
 ghost use Rattle.std.specs.Prelude.{◌≡◌, ◌==◌, [], ◌∷◌, List, IfOk, MatchOption, Some, option_map, position};
 ghost use Rattle.cy_event.specs.declared.steps.Step.{Step as StepValue};
-ghost use Rattle.cy_script.specs.Answers.{Gives};
+ghost use Rattle.cy_script.specs.Answers.{Reads};
 ghost use Rattle.cy_script.specs.Reading.{at_end, between, lines_of, quoted_line, script_of, this_line};
 ghost use Rattle.cy_script.specs.Spelling.{IsScriptText, line_feed};
 
@@ -22,12 +22,12 @@ const MOST_WRITTEN: usize = 8192;
 ///
 /// `Refused` where the text is outside the form, `NoMemory` where memory ran out.
 pub fn read_script(alloc: Global, bytes: &[u8]) -> Result<Script, ScriptFault>
-    ensures exact { Gives (λ script. script.steps) result (script_of bytes.now) }
+    ensures exact { Reads (λ script. script.steps) result (script_of bytes.now) }
 
     // What is read is spelled so, and what is spelled so is read, unless memory runs out.
     ensures found { IfOk result (λ script. IsScriptText bytes.now script.steps) }
     ensures only { (steps : List StepValue) →
-        IsScriptText bytes.now steps → Gives (λ script. script.steps) result (Some steps) }
+        IsScriptText bytes.now steps → Reads (λ script. script.steps) result (Some steps) }
 {
     read_lines(alloc, bytes)
 }
@@ -35,7 +35,7 @@ pub fn read_script(alloc: Global, bytes: &[u8]) -> Result<Script, ScriptFault>
 /// Reads the lines of the form one after another.
 #[tactic(auto, unfolding(crate::specs::Reading::script_of))]
 fn read_lines(alloc: Global, text: &[u8]) -> Result<Script, ScriptFault>
-    ensures { Gives (λ script. script.steps) result (script_of text.now) }
+    ensures { Reads (λ script. script.steps) result (script_of text.now) }
 {
     let rest = this_line(text, b"coyote-script 1")?;
     let rest = this_line(rest, b"rule / 0 async")?;
@@ -52,7 +52,7 @@ fn read_lines(alloc: Global, text: &[u8]) -> Result<Script, ScriptFault>
 
 /// The steps of the form with these bytes, of which the callback writes few enough.
 fn form_script(alloc: Global, came: Bytes, written: Bytes) -> Result<Script, ScriptFault>
-    ensures { Gives (λ script. script.steps) result (at_end came written []) }
+    ensures { Reads (λ script. script.steps) result (at_end came written []) }
 {
     let count = written.as_slice().len();
     if count > MOST_WRITTEN {
@@ -83,7 +83,7 @@ fn form_script(alloc: Global, came: Bytes, written: Bytes) -> Result<Script, Scr
 
 /// The text behind a first line of these words.
 fn this_line<'a>(text: &'a [u8], words: &[u8]) -> Result<&'a [u8], ScriptFault>
-    ensures { Gives (λ rest. lines_of rest.now) result (this_line words.now (lines_of text.now)) }
+    ensures { Reads (λ rest. lines_of rest.now) result (this_line words.now (lines_of text.now)) }
 {
     match first_line(text) {
         Some((line, rest)) if line == words => Ok(rest),
@@ -98,7 +98,7 @@ fn quoted_line<'a>(
     text: &'a [u8],
     front: &[u8],
 ) -> Result<(Bytes, &'a [u8]), ScriptFault>
-    ensures { Gives (λ x. (x.0, lines_of x.1.now)) result (quoted_line front.now (lines_of text.now)) }
+    ensures { Reads (λ x. (x.0, lines_of x.1.now)) result (quoted_line front.now (lines_of text.now)) }
 {
     let (line, rest) = first_line(text).ok_or(ScriptFault::Refused)?;
     let inner = between(line, front, b"\"").ok_or(ScriptFault::Refused)?;

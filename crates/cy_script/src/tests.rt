@@ -161,3 +161,12 @@ fn faults_are_printed(rt: HostRuntime) -> Result<(), Fail> {
     assert_eq!(rt; text.as_str(), "not a script of the form, out of memory");
     Ok(())
 }
+
+/// A law says all in its contract; a call shows that nothing is asked of the caller.
+#[test]
+fn laws_ask_for_nothing(_rt: HostRuntime) -> Result<(), Fail> {
+    reading_is_spelling();
+    reading_has_the_form();
+    hello_is_read();
+    Ok(())
+}

@@ -6,14 +6,14 @@ use Rattle.cy_event.specs.declared.steps.Step.{Step}
 use Rattle.cy_model.specs.Connections.{History, connections, replies}
 use Rattle.cy_model.specs.Entries.{trace_of}
 use Rattle.cy_model.specs.Reports.{by_number, connection_text, history_text, reply_lines, report, trace_text}
-use Rattle.cyctl.specs.Connecting.{Holds, admitted_text}
+use Rattle.cyctl.specs.Connecting.{KeepsConnections, admitted_text}
 use Rattle.cyctl.specs.declared.settings.Settings.{Settings}
 use Rattle.cyctl.specs.Answered.{rules_of}
 use Rattle.cyctl.specs.Parts.{Parts, charts_of}
 use Rattle.cyctl.specs.declared.connector.Admitted.{Admitted}
 
 -- the lines of the connections are those of the one that is kept
-connections_text : (s : Settings) (a : Option Admitted) (hs : List History) → Holds s a hs → flat_map (history_text s.limits (rules_of s)) (by_number hs) ≡ admitted_text a
+connections_text : (s : Settings) (a : Option Admitted) (hs : List History) → KeepsConnections s a hs → flat_map (history_text s.limits (rules_of s)) (by_number hs) ≡ admitted_text a
 connections_text s None hs h = ap (λ (gs : List History). flat_map (history_text s.limits (rules_of s)) (by_number gs)) h
 connections_text s (Some a) hs h =
     let p = a.connection in
@@ -23,7 +23,7 @@ connections_text s (Some a) hs h =
     ∙ sym (ap (λ (q : Parts). connection_text a.number q.cause q.took q.output (charts_of q)) h.3.same)
 
 -- the report is the lines of the replies and those of the connection that is kept
-pub report_is : (s : Settings) (steps : List Step) (rs : List Reply) (a : Option Admitted) → rs ≡ replies s.limits (rules_of s) (reverse steps) → Holds s a (connections s.limits (rules_of s) (reverse steps)) → report s.limits (rules_of s) steps ≡ reply_lines 1 rs ++ admitted_text a
+pub report_is : (s : Settings) (steps : List Step) (rs : List Reply) (a : Option Admitted) → rs ≡ replies s.limits (rules_of s) (reverse steps) → KeepsConnections s a (connections s.limits (rules_of s) (reverse steps)) → report s.limits (rules_of s) steps ≡ reply_lines 1 rs ++ admitted_text a
 unfolding report
 report_is s steps rs a replied h =
     let rules = rules_of s in

@@ -17,10 +17,10 @@ use Rattle.cy_event.specs.Heads.{Head, Front, awaited, found, malformed, head_of
 use Rattle.cy_event.specs.Mapping.{Rule, mapped}
 use Rattle.cy_event.specs.Table.{row, is_end}
 use Rattle.cy_event.proofs.Fronts.{front_length-bounds, head_of-found}
-use Rattle.cy_model.specs.Entries.{Entry, ended, owed_after, opening, tick, told, turned, acted, after, after_act, act_marks, act_reply, reply_to, job_marks, job_reply, is_full, write_takes, end_marks}
+use Rattle.cy_model.specs.Entries.{Entry, ended, owed_after, opening, tick, on_event, on_run, on_act, after, after_act, act_marks, act_reply, reply_to, job_marks, job_reply, is_full, write_takes, end_marks}
 use Rattle.cy_model.specs.Folds.{bytes_of, consumed, unread, running, state_of, answer_of}
 use Rattle.cy_model.specs.Jobs.{next_job}
-use Rattle.cy_model.specs.Marks.{Mark, opened, came, began, called, back, put, over, Taken, Trace}
+use Rattle.cy_model.specs.Marks.{Mark, opened, came, began, called, back, put, over, TakenUp, Trace}
 use Rattle.cy_model.specs.Settling.{with_marks, may_begin, begin_by, first_move, take_up_front, head_move, after_move, settle_step, settled, rule_for}
 use Rattle.cy_model.proofs.Settlings.{settled-step, settled-done, unread-began}
 use Rattle.cyctl.specs.declared.connection.Stage.{Stage}
@@ -43,7 +43,7 @@ came_represents t b T p s = record {
   within = omega (arith, s.within, length-append (bytes_of T) b);
 }
 
-pub began_represents : (t : ℕ) (T : Trace) (p : Parts) (r : Taken) → r.place ≡ consumed T → r.size ≤ length (unread T) → Represents T p → Represents ((t, began r) ∷ T) (after_begin r.size r.part p)
+pub began_represents : (t : ℕ) (T : Trace) (p : Parts) (r : TakenUp) → r.place ≡ consumed T → r.size ≤ length (unread T) → Represents T p → Represents ((t, began r) ∷ T) (after_begin r.size r.part p)
 began_represents t T p r at_place fits s = record {
   same = ap (after_begin r.size r.part) s.same
       ∙ ap (λ (u : List ℕ). record (after_begin r.size r.part (parts T)) { unread = u }) (sym (unread-began t T r at_place));
@@ -56,7 +56,7 @@ began_represents t T p r at_place fits s = record {
 pub record TakesUp (part : ℕ) (can_async : Bool) (place : ℕ) (f : Front) (size : ℕ) (move : Option (List Mark)) : Type 0 where
   pub head : Head
   pub front : f ≡ found size head
-  pub request : Taken
+  pub request : TakenUp
   pub move_is : move ≡ Some (began request ∷ [])
   pub place_is : request.place ≡ place
   pub size_is : request.size ≡ size
@@ -103,7 +103,7 @@ settle_step-some : (limits : Limits) (rules : List Rule) (t : ℕ) (T : Trace) (
 settle_step-some limits rules t T ms e = ap (λ o. after_move t T (first_move (o ∷ []))) e
 
 -- a head that was taken up is settled
-settled-began : (limits : Limits) (rules : List Rule) (t : ℕ) (T : Trace) (r : Taken) → head_move limits rules T ≡ Some (began r ∷ []) → settled limits rules t T ≡ (t, began r) ∷ T
+settled-began : (limits : Limits) (rules : List Rule) (t : ℕ) (T : Trace) (r : TakenUp) → head_move limits rules T ≡ Some (began r ∷ []) → settled limits rules t T ≡ (t, began r) ∷ T
 settled-began limits rules t T r e =
     settled-step limits rules t T ((t, began r) ∷ T) (settle_step-some limits rules t T (began r ∷ []) e)
     ∙ settled-done limits rules t ((t, began r) ∷ T) (settle_step-none limits rules t ((t, began r) ∷ T) refl)
@@ -140,11 +140,11 @@ pub tick_answers : (limits : Limits) (part : ℕ) (can_async : Bool) (t : ℕ) (
 unfolding after reply_to
 tick_answers limits part can_async t T p s = record { reply = refl; stands = settled_represents limits part can_async t T p s }
 
-pub tell_answers : (limits : Limits) (part : ℕ) (can_async : Bool) (t : ℕ) (e : Event) (b : List ℕ) (T : Trace) (p : Parts) → Represents T p → Answers limits (default_rule part can_async) t T (told e b) (reply.Taken (length (take (room_in p) b))) (after_settling limits part (after_came (take (room_in p) b) p))
+pub tell_answers : (limits : Limits) (part : ℕ) (can_async : Bool) (t : ℕ) (e : Event) (b : List ℕ) (T : Trace) (p : Parts) → Represents T p → Answers limits (default_rule part can_async) t T (on_event e b) (reply.Taken (length (take (room_in p) b))) (after_settling limits part (after_came (take (room_in p) b) p))
 unfolding after reply_to
 tell_answers limits part can_async t event.In b T p s =
     let rules = default_rule part can_async in
-    at_parts T p (λ q. Answers limits rules t T (told event.In b) (reply.Taken (length (take (room_in q) b))) (after_settling limits part (after_came (take (room_in q) b) q))) s
+    at_parts T p (λ q. Answers limits rules t T (on_event event.In b) (reply.Taken (length (take (room_in q) b))) (after_settling limits part (after_came (take (room_in q) b) q))) s
     (λ own. record {
       reply = refl;
       stands = settled_represents limits part can_async t ((t, came (take (room_in (parts T)) b)) ∷ T) (after_came (take (room_in (parts T)) b) (parts T))
@@ -170,14 +170,14 @@ owed_settled limits part T S p s stands =
     ∙ ap (λ (q : Parts). q.ended_charts) s.same) in
     ap (λ (v : Bool). if v then next_job S else None) (eq-eqb (ended S) (ended T) same)
 
-pub turn_answers : (limits : Limits) (part : ℕ) (can_async : Bool) (t : ℕ) (T : Trace) (p : Parts) → Represents T p → Answers limits (default_rule part can_async) t T turned (job_reply (job_of (after_settling limits part p))) (after_job (job_of (after_settling limits part p)) (after_settling limits part p))
+pub turn_answers : (limits : Limits) (part : ℕ) (can_async : Bool) (t : ℕ) (T : Trace) (p : Parts) → Represents T p → Answers limits (default_rule part can_async) t T on_run (job_reply (job_of (after_settling limits part p))) (after_job (job_of (after_settling limits part p)) (after_settling limits part p))
 unfolding after reply_to
 turn_answers limits part can_async t T p s =
     let rules = default_rule part can_async in
     let S = settled limits rules t T in
     let stands = settled_represents limits part can_async t T p s in
     let owed = owed_settled limits part T S p s stands in
-    at_parts S (after_settling limits part p) (λ q. Answers limits rules t T turned (job_reply (job_of q)) (after_job (job_of q) q)) stands
+    at_parts S (after_settling limits part p) (λ q. Answers limits rules t T on_run (job_reply (job_of q)) (after_job (job_of q) q)) stands
     (λ own. record {
       reply = ap job_reply (sym owed);
       stands = subst (λ (o : Option Job). Represents (with_marks t (job_marks o) S) (after_job (next_job S) (parts S))) (sym owed)
@@ -185,7 +185,7 @@ turn_answers limits part can_async t T p s =
     })
 
 -- no callback runs
-pub act_not_active : (limits : Limits) (rules : List Rule) (t : ℕ) (a : Act) (b : List ℕ) (T : Trace) (p : Parts) → p.running ≡ None → Represents T p → Answers limits rules t T (acted a b) reply.NotActive p
+pub act_not_active : (limits : Limits) (rules : List Rule) (t : ℕ) (a : Act) (b : List ℕ) (T : Trace) (p : Parts) → p.running ≡ None → Represents T p → Answers limits rules t T (on_act a b) reply.NotActive p
 unfolding after reply_to
 act_not_active limits rules t a b T p still s =
     let idle : running T ≡ None = sym (ap (λ (q : Parts). q.running) s.same) ∙ still in
@@ -195,18 +195,18 @@ act_not_active limits rules t a b T p still s =
     }
 
 -- while a callback runs, its act is made or refused
-running_after : (limits : Limits) (rules : List Rule) (t : ℕ) (a : Act) (b : List ℕ) (j : Job) (T : Trace) → running T ≡ Some j → after limits rules t T (acted a b) ≡ after_act limits rules t T (act_marks T a b)
+running_after : (limits : Limits) (rules : List Rule) (t : ℕ) (a : Act) (b : List ℕ) (j : Job) (T : Trace) → running T ≡ Some j → after limits rules t T (on_act a b) ≡ after_act limits rules t T (act_marks T a b)
 unfolding after
 running_after limits rules t a b j T runs =
     ap (λ (o : Option Job). if is_some o then after_act limits rules t T (act_marks T a b) else T) runs
 
-running_reply : (limits : Limits) (rules : List Rule) (t : ℕ) (a : Act) (b : List ℕ) (j : Job) (T : Trace) → running T ≡ Some j → reply_to limits rules t T (acted a b) ≡ act_reply T a
+running_reply : (limits : Limits) (rules : List Rule) (t : ℕ) (a : Act) (b : List ℕ) (j : Job) (T : Trace) → running T ≡ Some j → reply_to limits rules t T (on_act a b) ≡ act_reply T a
 unfolding reply_to
 running_reply limits rules t a b j T runs =
     ap (λ (o : Option Job). if is_some o then act_reply T a else reply.NotActive) runs
 
 -- what is answered and what stands, of an act whose marks are known
-act_answers : (limits : Limits) (rules : List Rule) (t : ℕ) (a : Act) (b : List ℕ) (j : Job) (T : Trace) (o : Option (List Mark)) (r : Reply) (q : Parts) → running T ≡ Some j → act_marks T a b ≡ o → act_reply T a ≡ r → Represents (after_act limits rules t T o) q → Answers limits rules t T (acted a b) r q
+act_answers : (limits : Limits) (rules : List Rule) (t : ℕ) (a : Act) (b : List ℕ) (j : Job) (T : Trace) (o : Option (List Mark)) (r : Reply) (q : Parts) → running T ≡ Some j → act_marks T a b ≡ o → act_reply T a ≡ r → Represents (after_act limits rules t T o) q → Answers limits rules t T (on_act a b) r q
 act_answers limits rules t a b j T o r q runs marks replied s = record {
   reply = sym replied ∙ sym (running_reply limits rules t a b j T runs);
   stands = subst (λ (S : Trace). Represents S q) (sym (running_after limits rules t a b j T runs ∙ ap (after_act limits rules t T) marks)) s;
@@ -217,7 +217,7 @@ runs_in : (j : Job) (T : Trace) (p : Parts) → Represents T p → p.running ≡
 runs_in j T p s runs = sym (ap (λ (q : Parts). q.running) s.same) ∙ runs
 
 -- the content buffer is full
-pub write_again : (limits : Limits) (rules : List Rule) (t n : ℕ) (b : List ℕ) (j : Job) (T : Trace) (p : Parts) → p.running ≡ Some j → is_full p.answer n ≡ true → Represents T p → Answers limits rules t T (acted (act.Write n) b) reply.Again p
+pub write_again : (limits : Limits) (rules : List Rule) (t n : ℕ) (b : List ℕ) (j : Job) (T : Trace) (p : Parts) → p.running ≡ Some j → is_full p.answer n ≡ true → Represents T p → Answers limits rules t T (on_act (act.Write n) b) reply.Again p
 write_again limits rules t n b j T p runs full s =
     let full_here : is_full (answer_of T) n ≡ true = sym (ap (λ (q : Parts). is_full q.answer n) s.same) ∙ full in
     act_answers limits rules t (act.Write n) b j T None reply.Again p (runs_in j T p s runs)
@@ -225,11 +225,11 @@ write_again limits rules t n b j T p runs full s =
     (ap (λ (v : Bool). if v then reply.Again else reply.Taken (write_takes (answer_of T) n)) full_here) s
 
 -- content is taken
-pub write_taken : (limits : Limits) (part : ℕ) (can_async : Bool) (t n : ℕ) (b : List ℕ) (j : Job) (T : Trace) (p : Parts) → p.running ≡ Some j → is_full p.answer n ≡ false → Represents T p → Answers limits (default_rule part can_async) t T (acted (act.Write n) b) (reply.Taken (write_takes p.answer n)) (after_settling limits part (after_write (take (write_takes p.answer n) b) p))
+pub write_taken : (limits : Limits) (part : ℕ) (can_async : Bool) (t n : ℕ) (b : List ℕ) (j : Job) (T : Trace) (p : Parts) → p.running ≡ Some j → is_full p.answer n ≡ false → Represents T p → Answers limits (default_rule part can_async) t T (on_act (act.Write n) b) (reply.Taken (write_takes p.answer n)) (after_settling limits part (after_write (take (write_takes p.answer n) b) p))
 write_taken limits part can_async t n b j T p runs fits s =
     let rules = default_rule part can_async in
     let fits_here : is_full (answer_of T) n ≡ false = sym (ap (λ (q : Parts). is_full q.answer n) s.same) ∙ fits in
-    at_parts T p (λ q. Answers limits rules t T (acted (act.Write n) b) (reply.Taken (write_takes q.answer n)) (after_settling limits part (after_write (take (write_takes q.answer n) b) q))) s
+    at_parts T p (λ q. Answers limits rules t T (on_act (act.Write n) b) (reply.Taken (write_takes q.answer n)) (after_settling limits part (after_write (take (write_takes q.answer n) b) q))) s
     (λ own.
     let taken = take (write_takes (answer_of T) n) b in
     act_answers limits rules t (act.Write n) b j T (Some (put taken ∷ [])) (reply.Taken (write_takes (answer_of T) n))
@@ -239,12 +239,12 @@ write_taken limits part can_async t n b j T p runs fits s =
     (settled_represents limits part can_async t ((t, put taken) ∷ T) (after_write taken (parts T)) (record { same = refl; within = own.within })))
 
 -- the service returns, and its request ends
-pub return_done : (limits : Limits) (part : ℕ) (can_async : Bool) (t : ℕ) (b : List ℕ) (j : Job) (T : Trace) (p : Parts) → p.running ≡ Some j → p.state ≡ state.Dispatched → Represents T p → Answers limits (default_rule part can_async) t T (acted act.Return b) reply.Done (after_settling limits part (after_return t p))
+pub return_done : (limits : Limits) (part : ℕ) (can_async : Bool) (t : ℕ) (b : List ℕ) (j : Job) (T : Trace) (p : Parts) → p.running ≡ Some j → p.state ≡ state.Dispatched → Represents T p → Answers limits (default_rule part can_async) t T (on_act act.Return b) reply.Done (after_settling limits part (after_return t p))
 return_done limits part can_async t b j T p runs dispatched s =
     let rules = default_rule part can_async in
     let here : state_of T ≡ state.Dispatched = sym (ap (λ (q : Parts). q.state) s.same) ∙ dispatched in
     let ms : List Mark = back ∷ called call.Return None ∷ over ∷ [] in
-    at_parts T p (λ q. Answers limits rules t T (acted act.Return b) reply.Done (after_settling limits part (after_return t q))) s
+    at_parts T p (λ q. Answers limits rules t T (on_act act.Return b) reply.Done (after_settling limits part (after_return t q))) s
     (λ own.
     act_answers limits rules t act.Return b j T (Some ms) reply.Done (after_settling limits part (after_return t (parts T))) (runs_in j T p s runs)
     (ap (λ (v : State). Some (back ∷ called call.Return None ∷ end_marks (is_end (row v call.Return)))) here)

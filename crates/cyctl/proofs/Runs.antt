@@ -1,24 +1,14 @@
 -- Steps that are taken one after another.
-use Rattle.std.proofs.Common.{◌≡◌, ℕ, zero, suc, ◌+◌, ◌<◌, List, [], ◌∷◌, ◌++◌, Option, length, reverse, take, get_or, ap, ◌∙◌, arith}
+use Rattle.std.proofs.Common.{◌≡◌, ℕ, zero, suc, ◌+◌, ◌<◌, List, [], ◌∷◌, ◌++◌, length, reverse, take, get_or, ap, ◌∙◌, arith}
 use Rattle.std.proofs.lemmas.List.{take_more, reverse-append}
 use Rattle.cy_event.specs.declared.steps.Step.{Step}
-use Rattle.cy_event.specs.declared.steps.Step.TheVariants as step
-use Rattle.cyctl.specs.Connecting.{AreCalm, CanTake, IsCalm}
-use Rattle.cyctl.specs.declared.connector.Admitted.{Admitted}
+use Rattle.cyctl.specs.Connecting.{CanAlwaysTakeEach, CanAlwaysTake}
 
--- a calm step can be taken
-pub can_take_calm : (s : Step) (a : Option Admitted) → IsCalm s → CanTake s a
-can_take_calm (step.At t) a c = c
-can_take_calm (step.Admit n) a c = absurd c
-can_take_calm (step.On n e b) a c = tt
-can_take_calm (step.Run n) a c = tt
-can_take_calm (step.Act n act b) a c = c
-
--- each of calm steps is calm
-pub calm_at : (steps : List Step) (i : ℕ) (d : Step) → AreCalm steps → i < length steps → IsCalm (get_or steps i d)
-calm_at [] i d c h = absurd (omega arith)
-calm_at (s ∷ steps) zero d c h = c.0
-calm_at (s ∷ steps) (suc i) d c h = calm_at steps i d c.1 (omega arith)
+-- each of the steps can be taken whatever was admitted
+pub can_take_at : (steps : List Step) (i : ℕ) (d : Step) → CanAlwaysTakeEach steps → i < length steps → CanAlwaysTake (get_or steps i d)
+can_take_at [] i d c h = absurd (omega arith)
+can_take_at (s ∷ steps) zero d c h = c.0
+can_take_at (s ∷ steps) (suc i) d c h = can_take_at steps i d c.1 (omega arith)
 
 -- one step more, the newest first
 pub reverse-take_more : (steps : List Step) (i : ℕ) (d : Step) (w : List Step) → i < length steps → reverse (take (i + 1) steps) ++ w ≡ get_or steps i d ∷ (reverse (take i steps) ++ w)

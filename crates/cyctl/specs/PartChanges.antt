@@ -12,26 +12,11 @@ use Rattle.cy_model.specs.Entries.{room_by}
 use Rattle.cy_model.specs.Folds.{finish_by, unsent_by}
 use Rattle.cy_model.specs.Jobs.{job_by}
 use Rattle.cy_model.specs.Settling.{may_begin_by}
-use Rattle.cyctl.specs.Parts.{Parts}
+use Rattle.cyctl.specs.Parts.{Parts, parts}
 
--- as a connection opens
+-- as a connection opens: nothing has happened
 abbrev pub opened_parts : Parts
-opened_parts = record {
-  unread = [];
-  came = 0;
-  is_open = false;
-  part = 0;
-  running = None;
-  is_served = false;
-  calls = [];
-  state = state.Dispatched;
-  answer = fresh_answer;
-  ended_charts = [];
-  output = [];
-  took = 0;
-  cause = None;
-  is_broken = false;
-}
+opened_parts = parts []
 
 -- how many bytes may come
 abbrev pub room_in : Parts → ℕ
@@ -54,18 +39,21 @@ abbrev pub due_size : Limits → Parts → Option ℕ
 due_size limits p =
     if may_begin_with p then plain_size (head_of limits.max_head limits.max_fields p.unread) else None
 
--- a head of n bytes is taken up for a component
-abbrev pub after_begin : ℕ → ℕ → Parts → Parts
-after_begin n part p = record p {
-  unread = drop n p.unread;
-  is_open = true;
-  part = part;
+-- between two requests: nothing is known of one
+abbrev pub without_request : Parts → Parts
+without_request p = record p {
+  is_open = false;
+  part = 0;
   running = None;
   is_served = false;
   calls = [];
   state = state.Dispatched;
   answer = fresh_answer;
 }
+
+-- a head of n bytes is taken up for a component
+abbrev pub after_begin : ℕ → ℕ → Parts → Parts
+after_begin n part p = record (without_request p) { unread = drop n p.unread; is_open = true; part = part }
 
 abbrev pub after_due : ℕ → Parts → Option ℕ → Parts
 after_due part p None = p
@@ -98,14 +86,7 @@ after_write b p = record p { answer = after_put b p.answer }
 
 -- the service returns, and the request ends
 abbrev pub after_return : ℕ → Parts → Parts
-after_return t p = record p {
-  is_open = false;
-  part = 0;
-  running = None;
-  is_served = false;
-  calls = [];
-  state = state.Dispatched;
-  answer = fresh_answer;
+after_return t p = record (without_request p) {
   ended_charts = p.ended_charts ++ (p.calls ++ call.Return ∷ []) ∷ [];
   output = p.output ++ finish_by p.is_broken p.answer t;
 }

@@ -1,5 +1,5 @@
 -- What the program writes for its words and its input.
-use Rattle.std.specs.Prelude.{◌≡◌, ◌⊎◌, ℕ, Bool, true, false, ◌&&◌, List, [], ◌∷◌, length, map, reverse, Option, Some, None, IsSome, ◌≤◌, option_map, codes, string_bytes, String, ◌==◌, if◌then◌else◌}
+use Rattle.std.specs.Prelude.{◌≡◌, ◌⊎◌, ℕ, Bool, true, false, ◌&&◌, List, [], ◌∷◌, length, map, reverse, Option, Some, None, IsSome, ◌≤◌, option_and_then, option_map, codes, string_bytes, String, ◌==◌, if◌then◌else◌}
 use Rattle.std.specs.declared.alloc.Global.{Global}
 use Rattle.std.specs.Io.KnownBytes.{Appends}
 use Rattle.cy_event.specs.Heads.{Front, awaited, found, malformed, head_of, is_plain}
@@ -39,19 +39,18 @@ unfoldable pub is_one_plain_head : List ℕ → Bool
 is_one_plain_head b = is_whole_head (length b) (head_of (standard 1).max_head (standard 1).max_fields b)
 
 -- whatever comes in is one plain head
-abbrev pub come_in_heads : List Step → Bool
-come_in_heads [] = true
-come_in_heads (step.On c e b ∷ steps) = is_one_plain_head b && come_in_heads steps
-come_in_heads (s ∷ steps) = come_in_heads steps
+abbrev pub brings_plain_heads : List Step → Bool
+brings_plain_heads [] = true
+brings_plain_heads (step.On c e b ∷ steps) = is_one_plain_head b && brings_plain_heads steps
+brings_plain_heads (s ∷ steps) = brings_plain_heads steps
 
 -- steps of which this holds
-abbrev pub where_heads : Option (List Step) → Option (List Step)
-where_heads None = None
-where_heads (Some steps) = if come_in_heads steps then Some steps else None
+abbrev pub with_plain_heads : List Step → Option (List Step)
+with_plain_heads steps = if brings_plain_heads steps then Some steps else None
 
 -- the steps of an input, or none where it is outside the form
 unfoldable pub steps_of : List ℕ → Option (List Step)
-steps_of input = where_heads (script_of input)
+steps_of input = option_and_then with_plain_heads (script_of input)
 
 -- one component, which serves every path, under the standard limits
 abbrev pub replayed : List Step → List ℕ

@@ -88,7 +88,7 @@ impl Connection {
     ghost use Rattle.cy_event.specs.declared.steps.Act.TheVariants as act;
     ghost use Rattle.cy_event.specs.declared.steps.Event.TheVariants as event;
     ghost use Rattle.cy_event.specs.declared.steps.Reply.TheVariants as reply;
-    ghost use Rattle.cy_model.specs.Entries.{acted, after, is_full, job_reply, opening, tick, told, turned, write_takes};
+    ghost use Rattle.cy_model.specs.Entries.{on_act, after, is_full, job_reply, opening, tick, on_event, on_run, write_takes};
     ghost use Rattle.cyctl.specs.Answered.{Answers, AnswersEach, rules_of};
     ghost use Rattle.cyctl.specs.Parts.{Represents, charts_of};
     ghost use Rattle.cyctl.specs.PartChanges.{after_came, after_begin, after_job, after_settling, after_write, after_return, due_size, job_of, opened_parts, room_in};
@@ -117,7 +117,7 @@ impl Connection {
         bytes: &[u8],
         settings: &Settings,
     ) -> Result<Reply, AllocError>
-        ensures { IfOk result (λ r. AnswersEach settings.now at (told event bytes.now) self.old r self.new) }
+        ensures { IfOk result (λ r. AnswersEach settings.now at (on_event event bytes.now) self.old r self.new) }
     {
         let Event::In = event;
         let count = self.take_in(bytes)?;
@@ -127,7 +127,7 @@ impl Connection {
 
     /// A worker turns to the connection.
     pub fn run(&mut self, at: u64, settings: &Settings) -> Result<Reply, AllocError>
-        ensures { IfOk result (λ r. AnswersEach settings.now at turned self.old r self.new) }
+        ensures { IfOk result (λ r. AnswersEach settings.now at on_run self.old r self.new) }
     {
         self.settle(settings);
         let reply = self.begin_job()?;
@@ -144,7 +144,7 @@ impl Connection {
     ) -> Result<Reply, AllocError>
         requires within { IsWithinBytes act bytes.now }
         requires moment { at ≤ GREATEST_MOMENT }
-        ensures { IfOk result (λ r. AnswersEach settings.now at (acted act bytes.now) self.old r self.new) }
+        ensures { IfOk result (λ r. AnswersEach settings.now at (on_act act bytes.now) self.old r self.new) }
     {
         let Stage::Serving { .. } = self.stage else {
             return Ok(Reply::NotActive);

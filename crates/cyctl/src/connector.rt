@@ -17,7 +17,7 @@ pub struct Admitted {
 }
 
 impl Admitted {
-    ghost use Rattle.cy_model.specs.Entries.{acted, told, turned};
+    ghost use Rattle.cy_model.specs.Entries.{on_act, on_event, on_run};
     ghost use Rattle.cyctl.specs.Connecting.{AnswersAt};
 
     /// The socket of the connection of this number tells something.
@@ -29,7 +29,7 @@ impl Admitted {
         bytes: &[u8],
         settings: &Settings,
     ) -> Result<Reply, AllocError>
-        ensures { IfOk result (λ r. AnswersAt settings.now at number (told event bytes.now) self.old r self.new) }
+        ensures { IfOk result (λ r. AnswersAt settings.now at number (on_event event bytes.now) self.old r self.new) }
     {
         if self.number != number {
             return Ok(Reply::NoConn);
@@ -40,7 +40,7 @@ impl Admitted {
 
     /// A worker turns to the connection of this number.
     fn run(&mut self, number: u64, at: u64, settings: &Settings) -> Result<Reply, AllocError>
-        ensures { IfOk result (λ r. AnswersAt settings.now at number turned self.old r self.new) }
+        ensures { IfOk result (λ r. AnswersAt settings.now at number on_run self.old r self.new) }
     {
         if self.number != number {
             return Ok(Reply::NoConn);
@@ -60,7 +60,7 @@ impl Admitted {
     ) -> Result<Reply, AllocError>
         requires within { IsWithinBytes act bytes.now }
         requires moment { at ≤ GREATEST_MOMENT }
-        ensures { IfOk result (λ r. AnswersAt settings.now at number (acted act bytes.now) self.old r self.new) }
+        ensures { IfOk result (λ r. AnswersAt settings.now at number (on_act act bytes.now) self.old r self.new) }
     {
         if self.number != number {
             return Ok(Reply::NoConn);
@@ -80,7 +80,7 @@ pub struct Connector {
 
 impl Connector {
     ghost use Rattle.cy_event.specs.declared.steps.Reply.TheVariants as reply;
-    ghost use Rattle.cy_model.specs.Entries.{acted, tick, told, turned};
+    ghost use Rattle.cy_model.specs.Entries.{on_act, tick, on_event, on_run};
     ghost use Rattle.cyctl.specs.Connecting.{Admits, AnswersOwn, CanTake, Ticks, StandsFor, TakesStep};
 
     /// A connector to which nothing has happened.
@@ -98,7 +98,7 @@ impl Connector {
 
     /// The socket of a connection tells something.
     fn event(&mut self, number: u64, event: Event, bytes: &[u8]) -> Result<Reply, AllocError>
-        ensures answers { IfOk result (λ r. AnswersOwn self.old.settings self.old.moment number (told event bytes.now) self.old.admitted r self.new.admitted) }
+        ensures answers { IfOk result (λ r. AnswersOwn self.old.settings self.old.moment number (on_event event bytes.now) self.old.admitted r self.new.admitted) }
         ensures settings { self.new.settings ≡ self.old.settings }
         ensures moment { self.new.moment ≡ self.old.moment }
     {
@@ -112,7 +112,7 @@ impl Connector {
 
     /// A worker turns to a connection.
     fn run(&mut self, number: u64) -> Result<Reply, AllocError>
-        ensures answers { IfOk result (λ r. AnswersOwn self.old.settings self.old.moment number turned self.old.admitted r self.new.admitted) }
+        ensures answers { IfOk result (λ r. AnswersOwn self.old.settings self.old.moment number on_run self.old.admitted r self.new.admitted) }
         ensures settings { self.new.settings ≡ self.old.settings }
         ensures moment { self.new.moment ≡ self.old.moment }
     {
@@ -128,7 +128,7 @@ impl Connector {
     fn act(&mut self, number: u64, act: Act, bytes: &[u8]) -> Result<Reply, AllocError>
         requires within { IsWithinBytes act bytes.now }
         requires moment { self.old.moment ≤ GREATEST_MOMENT }
-        ensures answers { IfOk result (λ r. AnswersOwn self.old.settings self.old.moment number (acted act bytes.now) self.old.admitted r self.new.admitted) }
+        ensures answers { IfOk result (λ r. AnswersOwn self.old.settings self.old.moment number (on_act act bytes.now) self.old.admitted r self.new.admitted) }
         ensures settings { self.new.settings ≡ self.old.settings }
         ensures moment { self.new.moment ≡ self.old.moment }
     {

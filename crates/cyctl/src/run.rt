@@ -4,7 +4,7 @@ ghost use Rattle.cy_event.specs.declared.limits.TheConstants.{GREATEST_MOMENT};
 ghost use Rattle.cy_event.specs.declared.steps.Step.{Step as AnyStep};
 ghost use Rattle.cy_model.specs.Connections.{replies};
 ghost use Rattle.cyctl.specs.Answered.{rules_of};
-ghost use Rattle.cyctl.specs.Connecting.{AdmitFirst, AreCalm, StandsFor};
+ghost use Rattle.cyctl.specs.Connecting.{AdmitFirst, CanAlwaysTakeEach, StandsFor};
 
 use crate::connector::Connector;
 use crate::settings::Settings;
@@ -58,7 +58,7 @@ impl Run {
     /// Takes steps that admit nobody.
     fn take_all(&mut self, alloc: Global, steps: &[Step]) -> Result<(), AllocError>
         requires moment { self.old.connector.moment ≤ GREATEST_MOMENT }
-        requires steps { AreCalm steps.now }
+        requires steps { CanAlwaysTakeEach steps.now }
         ensures runs { IfOk result (λ _. (w : List AnyStep) → RunsTo w self.old → RunsTo (reverse steps.now ++ w) self.new) }
         ensures settings { self.new.connector.settings ≡ self.old.connector.settings }
     {

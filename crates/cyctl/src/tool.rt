@@ -5,7 +5,7 @@ ghost use Rattle.cy_link.specs.Causes.{Rose};
 ghost use Rattle.cyctl.specs.Connecting.{AdmitFirst, admitted_text};
 ghost use Rattle.cyctl.specs.declared.tool.Refusal.TheVariants.{NoMemory};
 ghost use Rattle.cyctl.specs.Causes.{ReadsAll, WasRead, WritesFront};
-ghost use Rattle.cyctl.specs.Tool.{HasNotRisen, IsInForm, IsOutside, IsReplay, IsReplayStatus, IsTold, Reports, WritesReport, WritesReportFront, Tells, come_in_heads, message_of, refusal_for, refusal_of, status_of, is_one_plain_head, no_memory, refused_script, replayed, report_of, source_fault, steps_of, too_large, usage};
+ghost use Rattle.cyctl.specs.Tool.{HasNotRisen, IsInForm, IsOutside, IsReplay, IsReplayStatus, IsTold, Reports, WritesReport, WritesReportFront, Tells, brings_plain_heads, message_of, refusal_for, refusal_of, status_of, is_one_plain_head, no_memory, refused_script, replayed, report_of, source_fault, steps_of, too_large, usage};
 ghost use Rattle.cyctl.specs.declared.input.TheConstants.{GREATEST_INPUT};
 
 use crate::connector::{Admitted, Connector};
@@ -48,8 +48,8 @@ fn is_one_plain_head(bytes: &[u8]) -> bool
 }
 
 /// Whether whatever comes in is one plain head.
-fn come_in_heads(steps: &[Step]) -> bool
-    ensures { result ≡ come_in_heads steps.now }
+fn brings_plain_heads(steps: &[Step]) -> bool
+    ensures { result ≡ brings_plain_heads steps.now }
 {
     for step in steps {
         if let Step::On { bytes, .. } = step {
@@ -182,10 +182,10 @@ fn report(alloc: Global, steps: &[Step]) -> Result<Vec<u8>, AllocError>
 
 /// Refuses steps by which something comes in that isn't one plain head.
 fn in_heads(steps: &[Step]) -> Result<(), Refusal>
-    ensures { MatchResult result (λ _. come_in_heads steps.now ≡ true)
-        (λ refusal. (refusal ≡ Refusal.Script) × (come_in_heads steps.now ≡ false)) }
+    ensures { MatchResult result (λ _. brings_plain_heads steps.now ≡ true)
+        (λ refusal. (refusal ≡ Refusal.Script) × (brings_plain_heads steps.now ≡ false)) }
 {
-    if come_in_heads(steps) {
+    if brings_plain_heads(steps) {
         Ok(())
     } else {
         Err(Refusal::Script)

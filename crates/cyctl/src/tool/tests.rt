@@ -189,3 +189,10 @@ fn other_heads(rt: HostRuntime) -> Result<(), Fail> {
     }
     Ok(())
 }
+
+/// A law says all in its contract; a call shows that nothing is asked of the caller.
+#[test]
+fn laws_ask_for_nothing(_rt: HostRuntime) -> Result<(), Fail> {
+    crate::laws::read_steps_are_valid();
+    Ok(())
+}

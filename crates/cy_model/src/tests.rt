@@ -1,0 +1,16 @@
+use super::{dates, laws};
+use std::test::Fail;
+
+/// A law says all in its contract; a call shows that nothing is asked of the caller.
+#[test]
+fn laws_ask_for_nothing(_rt: HostRuntime) -> Result<(), Fail> {
+    dates::dates_are_httpdates_text();
+    laws::settling_rests();
+    laws::settling_goes_on();
+    laws::settling_is_two_words();
+    laws::example_is_reported();
+    laws::runs_are_legal();
+    laws::charts_are_legal();
+    laws::limit_is_kept();
+    Ok(())
+}
