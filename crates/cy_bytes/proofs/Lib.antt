@@ -3,3 +3,4 @@ pub mod Texts
 pub mod Quoted
 pub mod Loop
 pub mod Answered
+pub mod Digits

@@ -1,2 +1,4 @@
 pub mod Quoting
 pub mod QuoteFault
+pub mod Tokens
+pub mod Numbers

@@ -133,7 +133,7 @@ fn escaped(letter: u8) -> Option<u8>
 }
 
 /// The value of a digit of either case.
-fn hex_value(digit: u8) -> Option<u8>
+pub(crate) fn hex_value(digit: u8) -> Option<u8>
     ensures { SomeIff result (digit_value digit < 16) (digit_value digit) }
 {
     match digit {

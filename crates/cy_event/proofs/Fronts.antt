@@ -1,7 +1,7 @@
 -- A head that is found has a front, which has one byte at least and is within the bytes.
 use Rattle.std.proofs.Common.{◌≡◌, ℕ, ◌+◌, ◌<◌, ◌≤◌, Bool, true, false, ◌&&◌, ◌||◌, not, cond, List, [], ◌∷◌, length, Option, Some, None, refl, ap, arith, ◌==◌, nat_le, take}
 use Rattle.std.specs.List.{onto_first}
-use Rattle.cy_event.specs.Heads.{Head, awaited, found, malformed, front_length, length_to_empty, longer_by, lines_of, parts_at, is_empty_line, head_of, head_from_front, front_from, host_fits, whole_head, line_feed}
+use Rattle.cy_event.specs.Heads.{Head, awaited, found, malformed, front_length, length_to_empty, longer_by, raw_lines, parts_at, is_empty_line, head_of, head_from_front, front_from, host_fits, whole_head, line_feed}
 
 -- ---- the size of lines
 
@@ -45,7 +45,7 @@ length_to_empty-bounds begun (line ∷ next ∷ lines) n e =
 pub front_length-bounds : (bytes : List ℕ) (n : ℕ) → front_length bytes ≡ Some n → (0 < n) × (n ≤ length bytes)
 unfolding front_length
 front_length-bounds bytes n e =
-    let w = length_to_empty-bounds false (lines_of bytes) n e in
+    let w = length_to_empty-bounds false (raw_lines bytes) n e in
     (w.0, omega (arith, w.1, lines_size-parts_at line_feed bytes))
 
 -- ---- a head that is found is the whole front

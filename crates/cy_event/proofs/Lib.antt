@@ -1,2 +1,9 @@
 pub mod Fronts
 pub mod HeadRows
+pub mod Cuts
+pub mod TargetRows
+pub mod FramingRows
+pub mod FieldSpans
+pub mod Histories
+pub mod ChartsWritten
+pub mod ChartRows

@@ -42,6 +42,9 @@ space = 32
 abbrev pub percent : ℕ
 percent = 37
 
+abbrev pub dot : ℕ
+dot = 46
+
 abbrev pub colon : ℕ
 colon = 58
 
@@ -58,15 +61,15 @@ delete = 127
 abbrev pub is_blank : ℕ → Bool
 is_blank b = b == space || b == tab
 
--- a byte of a method or of a field's name (tchar)
+-- a byte of a method or of a field's name (tchar; RFC 9110, section 5.6.2)
 unfoldable pub is_name_byte : ℕ → Bool
 is_name_byte b = is_ascii_alphanumeric b || list_any (λ c. c == b) (codes "!#$%&'*+-.^_`|~")
 
--- a byte of a target: visible, or past ASCII
+-- a byte of a target: visible, or past ASCII, which is wider than section 3.2
 abbrev pub is_target_byte : ℕ → Bool
 is_target_byte b = nat_lt space b && not (b == delete)
 
--- a byte of a field's value: also a space or a tab
+-- a byte of a field's value: also a space or a tab (RFC 9110, section 5.5)
 abbrev pub is_value_byte : ℕ → Bool
 is_value_byte b = b == tab || (nat_le space b && not (b == delete))
 
@@ -89,7 +92,7 @@ abbrev pub skip_blanks : List ℕ → List ℕ
 skip_blanks [] = []
 skip_blanks (b ∷ bytes) = if is_blank b then skip_blanks bytes else b ∷ bytes
 
--- the bytes without the blanks at both ends
+-- the bytes without the blanks at both ends (RFC 9110, section 5.6.3)
 unfoldable pub trimmed : List ℕ → List ℕ
 trimmed bytes = reverse (skip_blanks (reverse (skip_blanks bytes)))
 
@@ -110,9 +113,9 @@ parts_at byte (b ∷ bytes) = let parts = parts_at byte bytes in if b == byte th
 
 -- ---- lines (section 2.2)
 
--- the lines without their LF; the last one has not ended
-abbrev pub lines_of : List ℕ → List (List ℕ)
-lines_of bytes = parts_at line_feed bytes
+-- the lines as they stand, without their LF but with a CR before it; the last one has not ended
+abbrev pub raw_lines : List ℕ → List (List ℕ)
+raw_lines bytes = parts_at line_feed bytes
 
 -- a line without one CR at its end
 abbrev pub bare : List ℕ → List ℕ
@@ -139,7 +142,7 @@ length_to_empty begun (line ∷ next ∷ lines) =
 
 -- the length of the shortest prefix that ends in an empty line after a line that isn't empty
 unfoldable pub front_length : List ℕ → Option ℕ
-front_length bytes = length_to_empty false (lines_of bytes)
+front_length bytes = length_to_empty false (raw_lines bytes)
 
 -- ---- the head that a whole text is
 
@@ -198,7 +201,7 @@ skip_empty_lines (line ∷ lines) = if is_empty_line line then skip_empty_lines 
 
 -- the head that the whole text is
 unfoldable pub whole_head : List ℕ → Option Head
-whole_head text = head_of_lines (skip_empty_lines (lines_of text))
+whole_head text = head_of_lines (skip_empty_lines (raw_lines text))
 
 -- ---- Host (RFC 9112, section 3.2; RFC 9110, section 7.2)
 
@@ -226,9 +229,9 @@ is_port (b ∷ bytes) = b == colon && list_all is_ascii_digit bytes
 abbrev pub is_host_name : List ℕ → Bool
 is_host_name name = not (is_empty name) && (list_all is_host_byte name && is_escaped name)
 
--- the inside of brackets: one or more hexadecimal digits, colons and dots
+-- a byte inside of brackets
 abbrev pub is_address_byte : ℕ → Bool
-is_address_byte b = is_ascii_hexdigit b || (b == colon || b == 46)
+is_address_byte b = is_ascii_hexdigit b || (b == colon || b == dot)
 
 -- an address that ended at its bracket, and a port
 abbrev pub is_address : Option (List ℕ × List ℕ) → Bool
@@ -286,7 +289,7 @@ head_from_front max_head max_fields bytes None = if nat_le max_head (length byte
 head_from_front max_head max_fields bytes (Some n) =
     if nat_le n max_head then front_from max_fields n (whole_head (take n bytes)) else malformed
 
--- the head at the front of the bytes: one of at most max_head bytes and max_fields fields
+-- the head at the front of the bytes: one of at most max_head bytes and max_fields fields; both limits are own
 unfoldable pub head_of : ℕ → ℕ → List ℕ → Front
 head_of max_head max_fields bytes = head_from_front max_head max_fields bytes (front_length bytes)
 

@@ -1,6 +1,10 @@
 pub mod Limits
 pub mod Table
-pub mod Mapping
+pub mod Charts
 pub mod Heads
 pub mod Dates
 pub mod Answers
+pub mod Targets
+pub mod Framings
+pub mod RequestHeads
+pub mod HeadRoom

@@ -64,6 +64,8 @@ pub enum Job {
 pub enum Reply {
     /// The step was made.
     Done,
+    /// The step was made, and a worker is to turn to the connection.
+    Wake,
     /// The connection was admitted.
     Entered,
     /// As many connections as the limit allows are counted.
@@ -76,6 +78,8 @@ pub enum Reply {
     Begun(Job),
     /// No callback is owed.
     Idle,
+    /// The state table has no row for the call in this state.
+    Illegal(State),
     /// No callback runs that could act.
     NotActive,
     /// No connection of that number was admitted.

@@ -29,3 +29,23 @@ fn plain_data(rt: HostRuntime) -> Result<(), Fail> {
     );
     Ok(())
 }
+
+#[test]
+fn bytes_are_cut_at_the_first_of_a_kind(rt: HostRuntime) -> Result<(), Fail> {
+    for (text, before, behind) in [
+        ("a:b", "a", "b"),
+        (":b", "", "b"),
+        ("a:", "a", ""),
+        ("a:b:c", "a", "b:c"),
+    ] {
+        let parts = cut(text.as_bytes(), b':');
+        assert!(rt;
+            parts == Some((before.as_bytes(), behind.as_bytes())),
+            "{text}"
+        );
+    }
+    for text in ["", "a", "a;b"] {
+        assert!(rt; cut(text.as_bytes(), b':').is_none(), "{text}");
+    }
+    Ok(())
+}

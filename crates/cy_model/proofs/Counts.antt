@@ -7,7 +7,7 @@ use Rattle.cy_event.specs.declared.steps.Call.TheVariants as call
 use Rattle.cy_event.specs.declared.steps.CloseCause.{CloseCause}
 use Rattle.cy_event.specs.declared.steps.Step.{Step}
 use Rattle.cy_event.specs.declared.steps.Step.TheVariants as step
-use Rattle.cy_event.specs.Mapping.{Rule}
+use Rattle.cy_map.specs.declared.rule.Rule.{Rule}
 use Rattle.cy_event.specs.Table.{row, is_end}
 use Rattle.cy_model.specs.Connections.{History, add_own, admits, connections, counted, moment, with_entry}
 use Rattle.cy_model.specs.Entries.{Entry, opening, on_event, on_run, on_act, end_marks, tick, trace_of}

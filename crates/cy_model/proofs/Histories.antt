@@ -1,12 +1,14 @@
 -- The calls of each request are a legal history of the state table.
-use Rattle.std.proofs.Common.{◌≡◌, ℕ, Bool, true, false, cond, ◌&&◌, List, [], ◌∷◌, ◌++◌, Some, None, is_none, IsSome, refl, sym, ap, ◌∙◌, subst}
+use Rattle.std.proofs.Common.{◌≡◌, ℕ, Bool, true, false, cond, ◌&&◌, ◌||◌, List, [], ◌∷◌, ◌++◌, Some, None, is_none, IsSome, refl, sym, ap, ◌∙◌, subst}
+use Rattle.std.proofs.lemmas.Bool.{or_from}
 use Rattle.cy_event.specs.declared.steps.Call.{Call}
 use Rattle.cy_event.specs.declared.steps.Call.TheVariants as call
 use Rattle.cy_event.specs.declared.steps.Job.{Job}
 use Rattle.cy_event.specs.declared.steps.Job.TheVariants as job
 use Rattle.cy_event.specs.declared.steps.State.{State}
 use Rattle.cy_event.specs.declared.steps.State.TheVariants as state
-use Rattle.cy_event.specs.Table.{row, is_end, next_state, IsLegalFrom, IsLegal}
+use Rattle.cy_event.specs.Table.{row, is_end, ends_from, next_state, state_from, IsLegal}
+use Rattle.cy_event.proofs.Histories.{ends_from-append, legal_more, state_from-append}
 use Rattle.cy_model.specs.Entries.{end_marks, trace_of}
 use Rattle.cy_model.specs.Folds.{calls, charts, ended_charts, is_open, is_served, part_of, running, state_of}
 use Rattle.cy_model.specs.Jobs.{job_in, next_job}
@@ -15,34 +17,6 @@ use Rattle.cy_model.specs.Marks.{back, called, started, over, Trace}
 use Rattle.cy_model.specs.Settling.{with_marks}
 use Rattle.cy_model.proofs.TraceInduction.{IsKept, trace_keeps}
 
--- ---- histories that grow
-
--- the state that calls leave
-after_calls : State → List Call → State
-after_calls s [] = s
-after_calls s (k ∷ ks) = after_calls (next_state s k) ks
-
--- none of the calls ends the request
-HasNoEnd : State → List Call → Type 0
-HasNoEnd s [] = Unit {0}
-HasNoEnd s (k ∷ ks) = (is_end (row s k) ≡ false) × HasNoEnd (next_state s k) ks
-
-after_calls-more : (s : State) (ks : List Call) (k : Call) → after_calls s (ks ++ k ∷ []) ≡ next_state (after_calls s ks) k
-unfolding after_calls
-after_calls-more s [] k = refl
-after_calls-more s (j ∷ ks) k = after_calls-more (next_state s j) ks k
-
-no_end-more : (s : State) (ks : List Call) (k : Call) → HasNoEnd s ks → is_end (row (after_calls s ks) k) ≡ false → HasNoEnd s (ks ++ k ∷ [])
-unfolding after_calls HasNoEnd
-no_end-more s [] k n goes_on = (goes_on, tt)
-no_end-more s (j ∷ ks) k n goes_on = (n.0, no_end-more (next_state s j) ks k n.1 goes_on)
-
-legal-more : (s : State) (ks : List Call) (k : Call) → IsLegalFrom s ks → HasNoEnd s ks → IsSome (row (after_calls s ks) k) → IsLegalFrom s (ks ++ k ∷ [])
-unfolding after_calls HasNoEnd
-legal-more s [] k l n has = has
-legal-more s (j ∷ []) k l n has = (l, n.0, has)
-legal-more s (j ∷ i ∷ ks) k l n has = (l.0, l.1, legal-more (next_state s j) (i ∷ ks) k l.2 n.1 has)
-
 -- ---- what is known of a trace
 
 record Charted (T : Trace) : Type 0 where
@@ -50,8 +24,8 @@ record Charted (T : Trace) : Type 0 where
   pub past : Each IsLegal (ended_charts T)
   -- the open one
   pub legal : IsLegal (calls T)
-  pub no_end : HasNoEnd state.Dispatched (calls T)
-  pub leads : state_of T ≡ after_calls state.Dispatched (calls T)
+  pub goes_on : ends_from state.Dispatched (calls T) ≡ false
+  pub leads : state_of T ≡ state_from state.Dispatched (calls T)
   -- a callback runs in DISPATCHED alone so far
   pub runs : (j : Job) → running T ≡ Some j → state_of T ≡ state.Dispatched
 
@@ -73,38 +47,41 @@ owed_in T j e =
     ] e
 
 -- a call in DISPATCHED, behind the calls of an open request
-call_here : (T : Trace) (P : State → Type 0) → Charted T → state_of T ≡ state.Dispatched → P state.Dispatched → P (after_calls state.Dispatched (calls T))
+call_here : (T : Trace) (P : State → Type 0) → Charted T → state_of T ≡ state.Dispatched → P state.Dispatched → P (state_from state.Dispatched (calls T))
 call_here T P c here p = subst P (sym here ∙ c.leads) p
+
+one_more : (T : Trace) (k : Call) → Charted T → state_of T ≡ state.Dispatched → IsSome (row state.Dispatched k) → IsLegal (calls T ++ k ∷ [])
+one_more T k c here has_row =
+    legal_more state.Dispatched (calls T) k c.legal c.goes_on (call_here T (λ s. IsSome (row s k)) c here has_row)
 
 served_charted : (t part : ℕ) (T : Trace) → state_of T ≡ state.Dispatched → Charted T → Charted ((t, called call.Run None) ∷ (t, started (job.Service part)) ∷ T)
 served_charted t part T here c = record {
   past = c.past;
-  legal = legal-more state.Dispatched (calls T) call.Run c.legal c.no_end (call_here T (λ s. IsSome (row s call.Run)) c here refl);
-  no_end = no_end-more state.Dispatched (calls T) call.Run c.no_end (call_here T (λ s. is_end (row s call.Run) ≡ false) c here refl);
-  leads = ap (λ (s : State). next_state s call.Run) c.leads ∙ sym (after_calls-more state.Dispatched (calls T) call.Run);
+  legal = one_more T call.Run c here refl;
+  goes_on = ends_from-append state.Dispatched (calls T) (call.Run ∷ [])
+      ∙ or_from (ends_from state.Dispatched (calls T)) (ends_from (state_from state.Dispatched (calls T)) (call.Run ∷ [])) c.goes_on
+      (call_here T (λ s. ends_from s (call.Run ∷ []) ≡ false) c here refl);
+  leads = ap (λ (s : State). next_state s call.Run) c.leads ∙ sym (state_from-append state.Dispatched (calls T) (call.Run ∷ []));
   runs = λ j e. ap (λ (s : State). next_state s call.Run) here;
 }
 
 -- the return ends the request
 ended_charted : (t : ℕ) (T : Trace) → state_of T ≡ state.Dispatched → Charted T → Charted (with_marks t (back ∷ called call.Return None ∷ over ∷ []) T)
-unfolding after_calls HasNoEnd
 ended_charted t T here c = record {
-  past = each-append IsLegal (ended_charts T) (calls T ++ call.Return ∷ []) c.past
-      (legal-more state.Dispatched (calls T) call.Return c.legal c.no_end (call_here T (λ s. IsSome (row s call.Return)) c here refl));
+  past = each-append IsLegal (ended_charts T) (calls T ++ call.Return ∷ []) c.past (one_more T call.Return c here refl);
   legal = tt;
-  no_end = tt;
+  goes_on = refl;
   leads = refl;
   runs = λ j e. refl;
 }
 
 charted_kept : IsKept Charted
-unfolding after_calls HasNoEnd
 charted_kept = record {
-  opens = λ t T c. record { past = c.past; legal = c.legal; no_end = c.no_end; leads = c.leads; runs = c.runs };
-  comes = λ t b T c. record { past = c.past; legal = c.legal; no_end = c.no_end; leads = c.leads; runs = c.runs };
-  begins = λ t r T c. record { past = c.past; legal = tt; no_end = tt; leads = refl; runs = λ j e. refl };
+  opens = λ t T c. record { past = c.past; legal = c.legal; goes_on = c.goes_on; leads = c.leads; runs = c.runs };
+  comes = λ t b T c. record { past = c.past; legal = c.legal; goes_on = c.goes_on; leads = c.leads; runs = c.runs };
+  begins = λ t r T c. record { past = c.past; legal = tt; goes_on = refl; leads = refl; runs = λ j e. refl };
   serves = λ t part T e c. served_charted t part T (owed_in T (job.Service part) e) c;
-  puts = λ t b T c. record { past = c.past; legal = c.legal; no_end = c.no_end; leads = c.leads; runs = c.runs };
+  puts = λ t b T c. record { past = c.past; legal = c.legal; goes_on = c.goes_on; leads = c.leads; runs = c.runs };
   returns = λ t j T e c.
       let here = c.runs j e in
       subst (λ (s : State). Charted (with_marks t (back ∷ called call.Return None ∷ end_marks (is_end (row s call.Return))) T)) (sym here) (ended_charted t T here c);
@@ -120,8 +97,7 @@ all_legal T c =
     ]
 
 nothing_charted : Charted []
-unfolding after_calls HasNoEnd
-nothing_charted = record { past = tt; legal = tt; no_end = tt; leads = refl; runs = λ j e. refl }
+nothing_charted = record { past = tt; legal = tt; goes_on = refl; leads = refl; runs = λ j e. refl }
 
 pub charts_are_legal : ChartsAreLegal
 charts_are_legal limits rules entries =

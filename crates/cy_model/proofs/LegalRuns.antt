@@ -3,7 +3,7 @@ use Rattle.std.proofs.Common.{◌≡◌, ◌≢◌, ◌≤◌, ℕ, true, false,
 use Rattle.cy_event.specs.declared.limits.Limits.{Limits}
 use Rattle.cy_event.specs.declared.steps.Step.{Step}
 use Rattle.cy_event.specs.declared.steps.Step.TheVariants as step
-use Rattle.cy_event.specs.Mapping.{Rule}
+use Rattle.cy_map.specs.declared.rule.Rule.{Rule}
 use Rattle.cy_model.specs.Connections.{History, add_own, admits, connections, moment, with_entry}
 use Rattle.cy_model.specs.Entries.{Entry, on_act, opening, reply_to, tick, on_event, trace_of, on_run}
 use Rattle.cy_model.specs.Laws.{Each, RunsAreLegal}

@@ -2,7 +2,7 @@
 use Rattle.std.proofs.Common.{◌≡◌, ℕ, ◌+◌, ◌<◌, ◌≤◌, true, false, List, [], ◌∷◌, length, drop, Option, Some, None, refl, sym, ap, ◌∙◌, subst, arith, length-drop, cond}
 use Rattle.cy_event.specs.declared.limits.Limits.{Limits}
 use Rattle.cy_event.specs.Heads.{Head, Front, awaited, found, malformed, head_of}
-use Rattle.cy_event.specs.Mapping.{Rule}
+use Rattle.cy_map.specs.declared.rule.Rule.{Rule}
 use Rattle.std.proofs.lemmas.List.{drop-drop}
 use Rattle.cy_event.proofs.Fronts.{front_length-bounds, head_of-found}
 use Rattle.cy_model.proofs.Repeats.{Falls, IsFirstOf, until_none-none, until_none-rests, until_none-bound, until_none-step, until_none-first, until_none-size, until_none-second, until_none-keeps}

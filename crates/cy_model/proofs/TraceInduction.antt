@@ -7,7 +7,7 @@ use Rattle.cy_event.specs.declared.steps.Call.TheVariants as call
 use Rattle.cy_event.specs.declared.steps.Event.TheVariants as event
 use Rattle.cy_event.specs.declared.steps.Job.{Job}
 use Rattle.cy_event.specs.declared.steps.Job.TheVariants as job
-use Rattle.cy_event.specs.Mapping.{Rule}
+use Rattle.cy_map.specs.declared.rule.Rule.{Rule}
 use Rattle.cy_model.specs.Entries.{Entry, opening, tick, on_event, on_run, on_act, after, after_act, act_marks, ended, is_full, job_marks, return_marks, room, trace_of, write_takes}
 use Rattle.cy_model.specs.Folds.{answer_of, running}
 use Rattle.cy_model.specs.Jobs.{next_job}

@@ -11,7 +11,7 @@ use Rattle.cy_event.specs.declared.steps.Job.TheVariants as job
 use Rattle.cy_event.specs.declared.steps.Reply.{Reply}
 use Rattle.cy_event.specs.declared.steps.Reply.TheVariants as reply
 use Rattle.cy_event.specs.Answers.{Answer, takes}
-use Rattle.cy_event.specs.Mapping.{Rule}
+use Rattle.cy_map.specs.declared.rule.Rule.{Rule}
 use Rattle.cy_event.specs.Table.{row, is_end}
 use Rattle.cy_model.specs.Folds.{bytes_of, unread, running, state_of, answer_of, ended_charts}
 use Rattle.cy_model.specs.Jobs.{next_job}

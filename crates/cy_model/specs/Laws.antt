@@ -6,7 +6,7 @@ use Rattle.cy_event.specs.declared.steps.Event.TheVariants as event
 use Rattle.cy_event.specs.declared.steps.Step.{Step}
 use Rattle.cy_event.specs.declared.steps.Step.TheVariants as step
 use Rattle.cy_event.specs.Limits.{standard}
-use Rattle.cy_event.specs.Mapping.{Rule}
+use Rattle.cy_map.specs.declared.rule.Rule.{Rule}
 use Rattle.cy_event.specs.Table.{IsLegal}
 use Rattle.cy_model.specs.Connections.{connections, counted}
 use Rattle.cy_model.specs.Entries.{Entry, trace_of}

@@ -10,8 +10,10 @@ use Rattle.cy_event.specs.declared.steps.Job.{Job}
 use Rattle.cy_event.specs.declared.steps.Job.TheVariants as job
 use Rattle.cy_event.specs.declared.steps.Reply.{Reply}
 use Rattle.cy_event.specs.declared.steps.Reply.TheVariants as reply
+use Rattle.cy_event.specs.declared.steps.State.{State}
+use Rattle.cy_event.specs.declared.steps.State.TheVariants as state
 use Rattle.cy_event.specs.declared.steps.Step.{Step}
-use Rattle.cy_event.specs.Mapping.{Rule}
+use Rattle.cy_map.specs.declared.rule.Rule.{Rule}
 use Rattle.cy_model.specs.Connections.{History, connections, replies}
 use Rattle.cy_model.specs.Entries.{trace_of}
 use Rattle.cy_model.specs.Folds.{cause_of, charts, output, took}
@@ -25,14 +27,32 @@ line_end = codes "\n"
 abbrev pub job_text : Job → List ℕ
 job_text (job.Service part) = codes "service " ++ decimal part
 
+-- the names of the states, as Tomcat's documentation of asynchronous processing has them
+abbrev pub state_name : State → List ℕ
+state_name state.Dispatched = codes "DISPATCHED"
+state_name state.Starting = codes "STARTING"
+state_name state.Started = codes "STARTED"
+state_name state.ReadWriteOp = codes "READ_WRITE_OP"
+state_name state.MustComplete = codes "MUST_COMPLETE"
+state_name state.CompletePending = codes "COMPLETE_PENDING"
+state_name state.Completing = codes "COMPLETING"
+state_name state.TimingOut = codes "TIMING_OUT"
+state_name state.MustDispatch = codes "MUST_DISPATCH"
+state_name state.DispatchPending = codes "DISPATCH_PENDING"
+state_name state.Dispatching = codes "DISPATCHING"
+state_name state.MustError = codes "MUST_ERROR"
+state_name state.Error = codes "ERROR"
+
 unfoldable pub reply_text : Reply → List ℕ
 reply_text reply.Done = codes "Done"
+reply_text reply.Wake = codes "Wake"
 reply_text reply.Entered = codes "Entered"
 reply_text (reply.Full n) = codes "Full " ++ decimal n
 reply_text (reply.Taken n) = codes "Taken " ++ decimal n
 reply_text reply.Again = codes "Again"
 reply_text (reply.Begun j) = codes "Begun " ++ job_text j
 reply_text reply.Idle = codes "Idle"
+reply_text (reply.Illegal s) = codes "Illegal " ++ state_name s
 reply_text reply.NotActive = codes "NotActive"
 reply_text reply.NoConn = codes "NoConn"
 

@@ -2,7 +2,7 @@
 use Rattle.std.specs.Prelude.{◌≡◌, ◌≤◌, ◌↔◌, ℕ, List, [], ◌∷◌, map}
 use Rattle.cy_event.specs.declared.limits.Limits.{Limits}
 use Rattle.cy_event.specs.declared.steps.Reply.{Reply}
-use Rattle.cy_event.specs.Mapping.{Rule}
+use Rattle.cy_map.specs.declared.rule.Rule.{Rule}
 use Rattle.cy_model.specs.Entries.{Entry, opening, trace_of, reply_to}
 
 -- an entry with its moment, and what it was answered

@@ -3,7 +3,8 @@ use Rattle.std.specs.Prelude.{ℕ, ◌+◌, ◌*◌, Bool, ◌&&◌, not, nat_le
 use Rattle.cy_event.specs.declared.limits.Limits.{Limits}
 use Rattle.cy_event.specs.declared.steps.CloseCause.{CloseCause}
 use Rattle.cy_event.specs.Heads.{Head, Front, awaited, found, malformed, head_of, is_plain}
-use Rattle.cy_event.specs.Mapping.{Rule, mapped}
+use Rattle.cy_map.specs.Mapping.{mapped}
+use Rattle.cy_map.specs.declared.rule.Rule.{Rule}
 use Rattle.cy_model.specs.Marks.{Mark, began, Trace}
 use Rattle.cy_model.specs.Folds.{bytes_of, consumed, unread, cause_of, is_open, unsent}
 use Rattle.cy_model.specs.Repeat.{until_none}

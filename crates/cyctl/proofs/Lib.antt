@@ -1,10 +1,4 @@
 pub mod AnswerParts
-pub mod HeadFronts
-pub mod HeadGrowth
-pub mod HeadLaws
-pub mod HeadLines
-pub mod HeadReads
-pub mod HeadShortest
 pub mod OneWord
 pub mod ReadSteps
 pub mod Reported

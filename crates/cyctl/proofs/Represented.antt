@@ -14,7 +14,8 @@ use Rattle.cy_event.specs.declared.steps.Reply.TheVariants as reply
 use Rattle.cy_event.specs.declared.steps.State.{State}
 use Rattle.cy_event.specs.declared.steps.State.TheVariants as state
 use Rattle.cy_event.specs.Heads.{Head, Front, awaited, found, malformed, head_of, is_plain}
-use Rattle.cy_event.specs.Mapping.{Rule, mapped}
+use Rattle.cy_map.specs.Mapping.{mapped}
+use Rattle.cy_map.specs.declared.rule.Rule.{Rule}
 use Rattle.cy_event.specs.Table.{row, is_end}
 use Rattle.cy_event.proofs.Fronts.{front_length-bounds, head_of-found}
 use Rattle.cy_model.specs.Entries.{Entry, ended, owed_after, opening, tick, on_event, on_run, on_act, after, after_act, act_marks, act_reply, reply_to, job_marks, job_reply, is_full, write_takes, end_marks}

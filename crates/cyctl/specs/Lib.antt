@@ -1,7 +1,7 @@
 pub mod Answered
 pub mod Causes
 pub mod Connecting
-pub mod HeadGrammar
+pub mod FoundHeads
 pub mod PartChanges
 pub mod Parts
 pub mod Running

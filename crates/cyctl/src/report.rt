@@ -1,11 +1,11 @@
 //! The lines of a report.
 ghost use Rattle.std.specs.Prelude.{◌≡◌, ◌++◌, List, OnErr, OnOk, codes, decimal, flat_map};
 ghost use Rattle.cy_bytes.specs.Quoting.{quoted};
-ghost use Rattle.cy_model.specs.Reports.{call_name, cause_name, cause_text, chart_item, chart_line, chart_lines, connection_text, line_end, reply_line, reply_lines};
+ghost use Rattle.cy_model.specs.Reports.{call_name, cause_name, cause_text, chart_item, chart_line, chart_lines, connection_text, line_end, reply_line, reply_lines, state_name};
 
 use crate::chart::Chart;
 use cy_bytes::quote;
-use cy_event::{Call, CloseCause, Job, Reply};
+use cy_event::{Call, CloseCause, Job, Reply, State};
 use std::alloc::{AllocError, Global};
 use std::fmt;
 
@@ -53,12 +53,14 @@ impl fmt::Display for ReplyText {
     fn fmt<W: fmt::Write>(&self, f: &mut fmt::Formatter<W>) -> fmt::Result {
         match self.0 {
             Reply::Done => f.write_str("Done"),
+            Reply::Wake => f.write_str("Wake"),
             Reply::Entered => f.write_str("Entered"),
             Reply::Full(count) => write!(f, "Full {count}"),
             Reply::Taken(count) => write!(f, "Taken {count}"),
             Reply::Again => f.write_str("Again"),
             Reply::Begun(Job::Service { part }) => write!(f, "Begun service {part}"),
             Reply::Idle => f.write_str("Idle"),
+            Reply::Illegal(state) => write!(f, "Illegal {}", state_name(state)),
             Reply::NotActive => f.write_str("NotActive"),
             Reply::NoConn => f.write_str("NoConn"),
         }
@@ -184,6 +186,26 @@ fn cause_name(cause: CloseCause) -> &'static str
     }
 }
 
+fn state_name(state: State) -> &'static str
+    ensures { result.now ≡ state_name state }
+{
+    match state {
+        State::Dispatched => "DISPATCHED",
+        State::Starting => "STARTING",
+        State::Started => "STARTED",
+        State::ReadWriteOp => "READ_WRITE_OP",
+        State::MustComplete => "MUST_COMPLETE",
+        State::CompletePending => "COMPLETE_PENDING",
+        State::Completing => "COMPLETING",
+        State::TimingOut => "TIMING_OUT",
+        State::MustDispatch => "MUST_DISPATCH",
+        State::DispatchPending => "DISPATCH_PENDING",
+        State::Dispatching => "DISPATCHING",
+        State::MustError => "MUST_ERROR",
+        State::Error => "ERROR",
+    }
+}
+
 fn call_name(call: Call) -> &'static str
     ensures { result.now ≡ call_name call }
 {
@@ -219,9 +241,11 @@ mod tests {
             Reply::NotActive,
             Reply::NoConn,
             Reply::Taken(18_446_744_073_709_551_615),
+            Reply::Wake,
+            Reply::Illegal(State::CompletePending),
         ];
         let lines =
-            b"1 Done\n2 Entered\n3 Full 8192\n4 Taken 0\n5 Again\n6 Begun service 3\n7 Idle\n8 NotActive\n9 NoConn\n10 Taken 18446744073709551615\n";
+            b"1 Done\n2 Entered\n3 Full 8192\n4 Taken 0\n5 Again\n6 Begun service 3\n7 Idle\n8 NotActive\n9 NoConn\n10 Taken 18446744073709551615\n11 Wake\n12 Illegal COMPLETE_PENDING\n";
         let mut out = Vec::new(rt.alloc());
         push_reply_lines(rt.alloc(), &mut out, &replies)?;
         assert_eq!(rt; out.as_slice(), lines.as_slice());

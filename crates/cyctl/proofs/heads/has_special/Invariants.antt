@@ -2,7 +2,7 @@
 use Rattle.std.proofs.Common.{◌≡◌, drop}
 use Rattle.std.specs.List.{list_any}
 use Rattle.cy_event.specs.Heads.{is_special}
-use Rattle.cyctl.specs.HeadGrammar.{fields_at}
+use Rattle.cy_head.specs.HeadSpans.{fields_at}
 use Rattle.cyctl.proofs.heads.has_special.Given as goal
 
 abbrev pub invariant-loop-field : goal.invariant-loop-field

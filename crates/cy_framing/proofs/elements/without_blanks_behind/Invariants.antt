@@ -1,0 +1,10 @@
+-- What is left decides.
+use Rattle.std.proofs.Common.{◌≡◌, length, reverse}
+use Rattle.cy_event.specs.Heads.{skip_blanks}
+use Rattle.cy_framing.proofs.elements.without_blanks_behind.Given as goal
+
+abbrev pub invariant-loop-text : goal.invariant-loop-text
+invariant-loop-text l = skip_blanks (reverse l.text) ≡ skip_blanks (reverse l.part)
+
+abbrev pub decreases-loop-text : goal.decreases-loop-text
+decreases-loop-text l = length l.text

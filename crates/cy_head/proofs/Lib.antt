@@ -1,0 +1,9 @@
+pub mod HeadDue
+pub mod HeadFronts
+pub mod HeadGrowth
+pub mod HeadLaws
+pub mod HeadLines
+pub mod HeadReads
+pub mod HeadScan
+pub mod HeadShortest
+pub mod HeadTables

@@ -1,0 +1,3 @@
+pub mod HeadGrammar
+pub mod HeadSpans
+pub mod Answers

@@ -1,0 +1,4 @@
+pub mod Numbers
+pub mod Free
+pub mod Entering
+pub mod Runs

@@ -1,0 +1,5 @@
+pub mod Patterns
+pub mod Mapping
+pub mod Refusals
+pub mod Indexes
+pub mod Mappers

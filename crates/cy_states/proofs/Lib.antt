@@ -1,0 +1,4 @@
+pub mod Cells
+pub mod Decisions
+pub mod ChartsMore
+pub mod Standing

@@ -1,0 +1,5 @@
+use Rattle.cy_states.proofs.Decisions.{others_wait}
+use Rattle.cy_states.proofs.laws.others_wait_for_the_callback.Goals as goal
+
+pub returns : goal.returns
+returns c = others_wait

@@ -1,0 +1,5 @@
+use Rattle.cy_states.proofs.Standing.{requests_are_legal}
+use Rattle.cy_states.proofs.laws.requests_are_legal.Goals as goal
+
+pub returns : goal.returns
+returns c = requests_are_legal

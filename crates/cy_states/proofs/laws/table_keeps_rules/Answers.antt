@@ -1,0 +1,5 @@
+use Rattle.cy_states.proofs.Cells.{each_cell}
+use Rattle.cy_states.proofs.laws.table_keeps_rules.Goals as goal
+
+pub returns : goal.returns
+returns c = each_cell

@@ -1,0 +1,5 @@
+use Rattle.cy_target.proofs.LawLemmas.{paths_are_clean}
+use Rattle.cy_target.proofs.laws.paths_are_clean.Goals as goal
+
+pub returns : goal.returns
+returns c = paths_are_clean

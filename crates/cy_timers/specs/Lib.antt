@@ -1,0 +1,4 @@
+pub mod Due
+pub mod Order
+pub mod Queues
+pub mod Laws

@@ -1,6 +1,0 @@
--- The values of Host are the one that was seen, and those of the fields that are left.
-use Rattle.cyctl.proofs.HeadReads.{HostsSeen}
-use Rattle.cyctl.proofs.heads.has_right_host.Given as goal
-
-abbrev pub invariant-loop-field : goal.invariant-loop-field
-invariant-loop-field l = HostsSeen l.front l.fields l.field-index l.host
