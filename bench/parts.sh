@@ -28,7 +28,8 @@ row() {
     awk -v part="$part" -v times="$times" -v bytes="$bytes" -v micros="$micros" -v wanted="$wanted" -v verdict="$verdict" 'BEGIN {
         figure = times / micros
         if (wanted > 0 && figure < wanted) verdict = verdict "  MISSED"
-        printf "%-26s %12.3f %12s %10s%s\n", part, figure, bytes > 0 ? sprintf("%.1f", times * bytes / micros) : "-", wanted > 0 ? wanted : "-", verdict
+        rate = (bytes > 0) ? sprintf("%.1f", times * bytes / micros) : "-"
+        printf "%-26s %12.3f %12s %10s%s\n", part, figure, rate, (wanted > 0) ? wanted : "-", verdict
         exit verdict != ""
     }' || missed=1
 }
