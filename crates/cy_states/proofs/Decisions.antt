@@ -110,29 +110,36 @@ complete_decides ks js k complete legal =
       completed = ap (λ (v : State). is_completed v) there ∙ stays_by s js completed rest;
     }
 
+-- a history that goes on hasn't ended
+goes_on_open : (ks : List Call) (k : Call) (b : Bool) → has_ended ks ≡ b → IsLegal (ks ++ k ∷ []) → has_ended ks ≡ false
+goes_on_open ks k true e legal = let none = nothing_follows_an_end state.Dispatched ks (k ∷ []) legal e in cc
+goes_on_open ks k false e legal = e
+
+-- a call that ends nothing leaves the request open
+open_after : (ks : List Call) (k : Call) → IsLegal (ks ++ k ∷ []) → is_end (row (state_after ks) k) ≡ false → has_ended (ks ++ k ∷ []) ≡ false
+open_after ks k legal no_end =
+    ends_from-append state.Dispatched ks (k ∷ [])
+    ∙ or_from (has_ended ks) (ends_from (state_after ks) (k ∷ [])) (goes_on_open ks k (has_ended ks) refl legal) (or_from (is_end (row (state_after ks) k)) false no_end refl)
+
+-- what a pending state says of a call that is accepted
+waits : (s : State) (j : Call) → is_pending s ≡ true → IsSome (row s j) → (is_coming_back j ≡ true) × (not (is_end (row s j)) ≡ true)
+waits s j pending some =
+    and_parts (is_coming_back j) (not (is_end (row s j)))
+    (row_or (row s j) (is_coming_back j && not (is_end (row s j))) (implied (is_pending s) (is_none (row s j) || (is_coming_back j && not (is_end (row s j)))) (cell_waits_for_callback s j) pending) some)
+
 pub others_wait : OthersWaitForTheCallback
-others_wait ks k j from_other in_callback legal =
-    let front = front_is_legal state.Dispatched (ks ++ k ∷ []) (j ∷ []) legal in
+others_wait ks k from_other in_callback legal =
     let was : State = state_after ks in
-    let s : State = next_state was k in
-    let here : state_after (ks ++ k ∷ []) ≡ s = state_from-append state.Dispatched ks (k ∷ []) in
+    let here : state_after (ks ++ k ∷ []) ≡ next_state was k = state_from-append state.Dispatched ks (k ∷ []) in
     let asked : (is_in_callback was && is_from_other k) ≡ true = and_from (is_in_callback was) (is_from_other k) in_callback from_other in
-    let kept = and_parts (not (is_end (row was k))) (is_pending s) (implied (is_in_callback was && is_from_other k) (not (is_end (row was k)) && is_pending s) (cell_is_kept was k) asked) in
-    let some : IsSome (row s j) = subst (λ (v : State). IsLegalFrom v (j ∷ [])) here (back_is_legal state.Dispatched (ks ++ k ∷ []) (j ∷ []) legal) in
-    let waits = row_or (row s j) (is_coming_back j && not (is_end (row s j))) (implied (is_pending s) (is_none (row s j) || (is_coming_back j && not (is_end (row s j)))) (cell_waits_for_callback s j) kept.1) some in
-    let two = and_parts (is_coming_back j) (not (is_end (row s j))) waits in
+    let kept = and_parts (not (is_end (row was k))) (is_pending (next_state was k)) (implied (is_in_callback was && is_from_other k) (not (is_end (row was k)) && is_pending (next_state was k)) (cell_is_kept was k) asked) in
+    let pending : is_pending (state_after (ks ++ k ∷ [])) ≡ true = ap is_pending here ∙ kept.1 in
     record {
-      next = two.0;
-      unended = ends_from-append state.Dispatched (ks ++ k ∷ []) (j ∷ [])
-          ∙ or_from (has_ended (ks ++ k ∷ [])) (ends_from (state_after (ks ++ k ∷ [])) (j ∷ []))
-          (ends_by ks k j legal)
-          (ap (λ (v : State). ends_from v (j ∷ [])) here ∙ or_from (is_end (row s j)) false (not-true (is_end (row s j)) two.1) refl);
+      unended = open_after ks k legal (not-true (is_end (row was k)) kept.0);
+      next = λ j more. (accepted j pending more).0;
+      still = λ j more.
+          open_after (ks ++ k ∷ []) j more (not-true (is_end (row (state_after (ks ++ k ∷ [])) j)) (accepted j pending more).1);
     }
   where
-    -- a history that goes on hasn't ended
-    ends_by : (ks : List Call) (k j : Call) → IsLegal (ks ++ k ∷ [] ++ j ∷ []) → has_ended (ks ++ k ∷ []) ≡ false
-    ends_by ks k j legal = goes_on_open (has_ended (ks ++ k ∷ [])) refl
-      where
-        goes_on_open : (b : Bool) → has_ended (ks ++ k ∷ []) ≡ b → has_ended (ks ++ k ∷ []) ≡ false
-        goes_on_open true e = let none = nothing_follows_an_end state.Dispatched (ks ++ k ∷ []) (j ∷ []) legal e in cc
-        goes_on_open false e = e
+    accepted : (j : Call) → is_pending (state_after (ks ++ k ∷ [])) ≡ true → IsLegal (ks ++ k ∷ [] ++ j ∷ []) → (is_coming_back j ≡ true) × (not (is_end (row (state_after (ks ++ k ∷ [])) j)) ≡ true)
+    accepted j pending more = waits (state_after (ks ++ k ∷ [])) j pending (back_is_legal state.Dispatched (ks ++ k ∷ []) (j ∷ []) more)

@@ -31,14 +31,16 @@ pub record IsDecided (before js : List Call) : Type 0 where
 abbrev pub CompleteDecides : Type 0
 CompleteDecides = (ks js : List Call) (k : Call) → IsTrue (is_complete k) → IsLegal (ks ++ k ∷ [] ++ js) → IsDecided (ks ++ k ∷ []) js
 
--- the call that is accepted next is that the running callback comes back, and neither ends the request
-pub record IsWaiting (before : List Call) (j : Call) : Type 0 where
-  pub next : IsTrue (is_coming_back j)
-  pub unended : has_ended (before ++ j ∷ []) ≡ false
+-- The request hasn't ended; the call that is accepted next is that the running callback comes back, and doesn't end it
+-- either.
+pub record IsWaiting (before : List Call) : Type 0 where
+  pub unended : has_ended before ≡ false
+  pub next : (j : Call) → IsLegal (before ++ j ∷ []) → IsTrue (is_coming_back j)
+  pub still : (j : Call) → IsLegal (before ++ j ∷ []) → has_ended (before ++ j ∷ []) ≡ false
 
 -- a complete or dispatch of another thread in STARTING or READ_WRITE_OP ends nothing before the callback came back
 abbrev pub OthersWaitForTheCallback : Type 0
-OthersWaitForTheCallback = (ks : List Call) (k j : Call) → IsTrue (is_from_other k) → IsTrue (is_in_callback (state_after ks)) → IsLegal (ks ++ k ∷ [] ++ j ∷ []) → IsWaiting (ks ++ k ∷ []) j
+OthersWaitForTheCallback = (ks : List Call) (k : Call) → IsTrue (is_from_other k) → IsTrue (is_in_callback (state_after ks)) → IsLegal (ks ++ k ∷ []) → IsWaiting (ks ++ k ∷ [])
 
 -- a chart whose counts don't stand still, its cycles written out, is the list of calls
 abbrev pub ChartsAreTheCalls : Type 0
