@@ -63,14 +63,14 @@ with_call state.ReadWriteOp call.Return items = with_return (last_item items) it
 with_call s k items = items ++ One k ∷ []
 
 -- a call that is refused changes nothing
-abbrev pub after_row : Option Row → Progress → Call → Progress
-after_row None p k = p
-after_row (Some (On t)) p k = record { state = t; is_ended = false; chart = with_call p.state k p.chart }
-after_row (Some (Wake t)) p k = record { state = t; is_ended = false; chart = with_call p.state k p.chart }
-after_row (Some Ends) p k = record { state = p.state; is_ended = true; chart = with_call p.state k p.chart }
+abbrev pub progress_after : Option Row → Progress → Call → Progress
+progress_after None p k = p
+progress_after (Some (On t)) p k = record { state = t; is_ended = false; chart = with_call p.state k p.chart }
+progress_after (Some (Wake t)) p k = record { state = t; is_ended = false; chart = with_call p.state k p.chart }
+progress_after (Some Ends) p k = record { state = p.state; is_ended = true; chart = with_call p.state k p.chart }
 
 abbrev pub after_call : Progress → Call → Progress
-after_call p k = after_row (row_at p k) p k
+after_call p k = progress_after (row_at p k) p k
 
 -- ---- the calls that were accepted
 

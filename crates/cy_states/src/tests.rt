@@ -61,6 +61,10 @@ fn is_as_written(cell: &str, before: State, reply: Reply, machine: &Machine) -> 
 /// Makes each of the ten calls in the state that these calls lead to. Each cell says what is written down for people: the
 /// state that the call leads to, with `:w` where it wakes, `ends`, or `.` where it is refused.
 fn check_line(rt: &impl Abort, machine: &mut Machine, state: State, path: &[Call], line: &str) {
+    assert!(rt;
+        line.split(' ').count() == CALLS.len(),
+        "{state:?} has a cell for each call"
+    );
     for (call, cell) in CALLS.iter().zip(line.split(' ')) {
         machine.clear();
         walk(rt, machine, path);
