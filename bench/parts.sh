@@ -1,7 +1,7 @@
 #!/usr/bin/env bash
 # Measures parts of a connector by the built `parts_bench`: each part runs so often that it takes a second or so. For
-# each it prints how often it ran in a second (the middle one of three runs), in millions, the bytes that it read in a
-# second, and the figure that is wanted, in millions a second. It is no part of the gate.
+# each it prints how often it ran in a second (the middle one of three runs), in millions, the bytes that it read or
+# wrote in a second, and the figure that is wanted, in millions a second. It is no part of the gate.
 # Status 1: a figure isn't the wanted one, or a checksum changed from run to run.
 set -eu
 export LC_ALL=C
@@ -14,7 +14,7 @@ if [ ! -x "$program" ]; then
 fi
 missed=0
 
-# A row: the part, how often it runs, how many bytes it reads each time, and the wanted figure (0: none).
+# A row: the part, how often it runs, how many bytes it reads or writes each time, and the wanted figure (0: none).
 row() {
     local part=$1 times=$2 bytes=$3 wanted=$4 begin end answer first="" micros taken=() verdict=""
     for _ in 1 2 3; do
@@ -49,5 +49,12 @@ row enter_and_leave_of_8192 100000000 0 0
 row timers_set 300000 0 0
 row timers_set_later 300000 0 0
 row timers_due 3000000 0 0
+row pieces_of_8192 500000 8192 0.183
+row answers_of_100 3000000 100 2
+row bodies_of_8192 3000000 8192 0.244
+row chunks_of_1000 1000000 8061 0.124
+row chunks_of_1 20000 6005 0.0166
+row scans_of_1000 80000 1000 0
+row scans_of_15999 5000 15999 0
 
 exit "$missed"

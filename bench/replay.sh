@@ -17,9 +17,8 @@ runs=5
 greatest=67108864
 missed=0
 
-# GNU time tells the memory of a program; without it a few lines of Python do.
-timer=/usr/bin/time
-"$timer" -q -f %M true 2>/dev/null >/dev/null || timer=
+# shellcheck source=measure.sh
+. "$root/bench/measure.sh"
 
 # So many letters.
 letters() {
@@ -33,33 +32,6 @@ script() {
     printf '"\nrun 1\nact 1 write "'
     cat "$2"
     printf '"\nreturn 1\n'
-}
-
-# Runs the program on the input. Writes what it wrote to `written`, and prints its status, its microseconds and its
-# greatest memory in KiB.
-measure() {
-    local status=0 begin end
-    if [ -n "$timer" ]; then
-        begin=${EPOCHREALTIME/./}
-        "$timer" -q -f %M -o "$room/memory" "$program" replay <"$room/input" >"$room/written" || status=$?
-        end=${EPOCHREALTIME/./}
-        echo "$status $((end - begin)) $(tail -n 1 "$room/memory")"
-    else
-        python3 - "$program" "$room/input" "$room/written" <<'PYTHON'
-import resource
-import subprocess
-import sys
-import time
-
-program, given, written = sys.argv[1:]
-with open(given, "rb") as source, open(written, "wb") as sink:
-    begin = time.monotonic()
-    status = subprocess.call([program, "replay"], stdin=source, stdout=sink)
-    end = time.monotonic()
-memory = resource.getrusage(resource.RUSAGE_CHILDREN).ru_maxrss
-print(status, int((end - begin) * 1000000), memory)
-PYTHON
-    fi
 }
 
 # NAME, the wanted status, the wanted first line, the bound of the milliseconds, and that of the memory in KiB (0: none).
@@ -101,7 +73,7 @@ beside=$(script "$room/empty" "$room/empty" | wc -c)
 letters $((greatest - beside)) >"$room/came"
 script "$room/came" "$room/empty" >"$room/input"
 rm "$room/came"
-row "64 MiB, of one in line" 3 "refused: script" 2000 "$three_times"
+row "64 MiB, of one in line" 0 "1 Entered" 2000 "$three_times"
 
 printf 'GET / HTTP/1.1\\r\\nHost: a\\r\\n\\r\\n' >"$room/came"
 letters 8192 >"$room/content"

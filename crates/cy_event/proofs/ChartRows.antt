@@ -1,5 +1,5 @@
 -- Charts that were worked out by hand, computed from the definition. No contract rests on them.
-use Rattle.std.proofs.Common.{◌≡◌, ℕ, [], ◌∷◌, refl}
+use Rattle.std.proofs.Common.{◌≡◌, [], ◌∷◌, refl}
 use Rattle.cy_event.specs.declared.steps.Call.TheVariants as call
 use Rattle.cy_event.specs.declared.table.ChartItem.TheVariants.{One, Cycles}
 use Rattle.cy_event.specs.Charts.{chart_of}

@@ -1,5 +1,5 @@
 -- A chart, its cycles written out, is the list of calls.
-use Rattle.std.proofs.Common.{◌≡◌, ℕ, zero, suc, ◌+◌, ◌-◌, ◌^◌, ◌<◌, min, Bool, true, false, Option, Some, None, IsSome, List, [], ◌∷◌, ◌++◌, All, refl, ap, sym, ◌∙◌, arith, append_assoc}
+use Rattle.std.proofs.Common.{◌≡◌, ℕ, suc, ◌+◌, min, List, [], ◌∷◌, ◌++◌, refl, ap, ◌∙◌, arith}
 use Rattle.std.proofs.lemmas.List.Elements.{All-nil, All-head, All-tail, All-cons}
 use Rattle.cy_event.specs.declared.steps.State.{State}
 use Rattle.cy_event.specs.declared.steps.State.TheVariants as state
@@ -7,7 +7,7 @@ use Rattle.cy_event.specs.declared.steps.Call.{Call}
 use Rattle.cy_event.specs.declared.steps.Call.TheVariants as call
 use Rattle.cy_event.specs.declared.table.ChartItem.{ChartItem}
 use Rattle.cy_event.specs.declared.table.ChartItem.TheVariants.{One, Cycles}
-use Rattle.cy_event.specs.Charts.{CountsOn, IsExact, chart_from, chart_of, cycles, most_cycles, put_call, put_cycle, written_out}
+use Rattle.cy_event.specs.Charts.{CountsOn, IsExact, chart_from, cycles, most_cycles, put_call, put_cycle, written_out}
 use Rattle.cy_event.specs.Table.{next_state}
 
 -- ---- written out

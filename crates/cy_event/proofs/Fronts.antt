@@ -25,6 +25,13 @@ lines_size-parts_at byte (b ∷ bytes) =
 
 -- ---- lengths
 
+-- the length up to the empty line, where lines follow
+pub to_empty-cons : (begun : Bool) (line : List ℕ) (lines : List (List ℕ)) → (lines ≡ [] → ⊥)
+    → length_to_empty begun (line ∷ lines) ≡ cond (begun && is_empty_line line) (Some (length line + 1))
+    (longer_by (length line + 1) (length_to_empty (begun || not (is_empty_line line)) lines))
+to_empty-cons begun line [] some = absurd (some refl)
+to_empty-cons begun line (a ∷ lines) some = refl
+
 longer_by-some : (n m : ℕ) (o : Option ℕ) → longer_by n o ≡ Some m → (k : ℕ) × (o ≡ Some k) × (m ≡ n + k)
 longer_by-some n m None e = cc
 longer_by-some n m (Some k) e = (k, refl, cc)

@@ -1,9 +1,8 @@
 -- Histories of the state table: two in a row, and one call more.
-use Rattle.std.proofs.Common.{◌≡◌, Bool, true, false, ◌||◌, Option, Some, None, IsSome, List, [], ◌∷◌, ◌++◌, refl, ap, sym, ◌∙◌}
+use Rattle.std.proofs.Common.{◌≡◌, Bool, true, false, ◌||◌, IsSome, List, [], ◌∷◌, ◌++◌, refl, ap, sym, ◌∙◌}
 use Rattle.std.proofs.lemmas.Bool.{or_parts}
 use Rattle.cy_event.specs.declared.steps.State.{State}
 use Rattle.cy_event.specs.declared.steps.Call.{Call}
-use Rattle.cy_event.specs.declared.table.Row.{Row}
 use Rattle.cy_event.specs.Table.{row, next_state, is_end, IsLegalFrom, state_from, ends_from}
 
 -- ---- the parts of a legal history

@@ -7,3 +7,8 @@ pub mod FieldSpans
 pub mod Histories
 pub mod ChartsWritten
 pub mod ChartRows
+pub mod BodyRows
+pub mod BodyRuns
+pub mod DatesCounted
+pub mod DatesWritten
+pub mod AnswerRows

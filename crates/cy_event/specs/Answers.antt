@@ -1,5 +1,5 @@
 -- An answer: what a component set and wrote, and its bytes (RFC 9110, sections 6 and 15; RFC 9112, sections 4 and 6).
-use Rattle.std.specs.Prelude.{ℕ, ◌-◌, min, List, [], ◌++◌, Option, None, unwrap_or, length, flat_map, codes, decimal}
+use Rattle.std.specs.Prelude.{ℕ, ◌-◌, min, Bool, List, [], ◌∷◌, ◌++◌, Option, None, unwrap_or, length, flat_map, codes, decimal, if◌then◌else◌}
 use Rattle.cy_event.specs.Heads.{Field}
 use Rattle.cy_event.specs.Dates.{date_at}
 
@@ -14,6 +14,15 @@ pub record Answer : Type 0 where
 -- as a request begins
 abbrev pub fresh_answer : Answer
 fresh_answer = record { status = 200; fields = []; set_length = None; content = [] }
+
+-- the answer that tells of an error: its status, and as its content a line that names it
+abbrev pub error_answer : ℕ → Answer
+error_answer status = record {
+  status = status;
+  fields = record { name = codes "Content-Type"; value = codes "text/plain" } ∷ [];
+  set_length = None;
+  content = codes "Error " ++ decimal status ++ codes "\n";
+}
 
 -- with more content
 abbrev pub after_put : List ℕ → Answer → Answer
@@ -57,6 +66,17 @@ head_text a framing at connection =
     ++ codes "Date: " ++ date_at at ++ crlf ++ connection_line connection ++ crlf
 
 -- An answer of which nothing was cut before its end is framed by its length: the one that was set, or its content's.
+abbrev pub head_of_answer : Answer → ℕ → Connection → List ℕ
+head_of_answer a at connection = head_text a (content_length (unwrap_or a.set_length (length a.content))) at connection
+
 abbrev pub answer_text : Answer → ℕ → Connection → List ℕ
-answer_text a at connection =
-    head_text a (content_length (unwrap_or a.set_length (length a.content))) at connection ++ a.content
+answer_text a at connection = head_of_answer a at connection ++ a.content
+
+-- The answer to a head that is refused: its connection closes. To a HEAD request it has no content (RFC 9110, 9.3.2).
+abbrev pub refusal_text : ℕ → Bool → ℕ → List ℕ
+refusal_text status to_head at =
+    head_of_answer (error_answer status) at close ++ (if to_head then [] else (error_answer status).content)
+
+-- what tells a client to send the body that it holds back (RFC 9110, 15.2.1)
+abbrev pub continue_text : List ℕ
+continue_text = codes "HTTP/1.1 100 \r\n\r\n"

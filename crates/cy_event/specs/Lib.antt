@@ -4,7 +4,12 @@ pub mod Charts
 pub mod Heads
 pub mod Dates
 pub mod Answers
+pub mod AnswerModes
+pub mod Answering
 pub mod Targets
 pub mod Framings
 pub mod RequestHeads
 pub mod HeadRoom
+pub mod Bodies
+pub mod BodyGrammar
+pub mod DateText

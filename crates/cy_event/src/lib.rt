@@ -2,6 +2,7 @@
 //! Beside it, in `specs/`, stand the definitions that know of no connection: heads, dates, the state table, answers.
 #![tactic(auto)]
 
+pub mod body;
 pub mod bytes;
 pub mod cutting;
 pub mod framing;
@@ -11,6 +12,7 @@ pub mod no_memory;
 pub mod steps;
 pub mod table;
 
+pub use body::{BodyMark, BodyStage, GREATEST_CHUNK, GREATEST_LINE, MOST_DIGITS};
 pub use bytes::Bytes;
 pub use cutting::cut;
 pub use framing::Framing;

@@ -41,6 +41,10 @@ pub enum Call {
 pub enum Event {
     /// Bytes came; they stand beside the event.
     In,
+    /// No further bytes will come.
+    End,
+    /// The socket took so many bytes of those that wait for it.
+    Took(u64),
 }
 
 /// What a running callback does. The bytes that an act counts stand beside it, and are its first ones.
@@ -72,7 +76,11 @@ pub enum Reply {
     Full(u64),
     /// So many bytes were taken.
     Taken(u64),
-    /// No byte can be taken now.
+    /// So many bytes of content were given.
+    Got(u64),
+    /// The body is whole, and all of its content was given.
+    GotEnd,
+    /// No byte can be taken or given now.
     Again,
     /// A callback begins.
     Begun(Job),
@@ -84,6 +92,12 @@ pub enum Reply {
     NotActive,
     /// No connection of that number was admitted.
     NoConn,
+    /// A value is outside what may be said.
+    BadValue,
+    /// More than this many would be.
+    TooMany(u64),
+    /// The connection is closed, or closed to this.
+    Closed,
 }
 
 /// Why a connection is closed. The first cause stays.

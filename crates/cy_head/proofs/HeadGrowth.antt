@@ -1,10 +1,11 @@
 -- More bytes change no answer but `awaited`.
-use Rattle.std.proofs.Common.{◌≡◌, ℕ, ◌+◌, ◌<◌, ◌≤◌, Bool, true, false, not, ◌&&◌, ◌||◌, cond, List, [], ◌∷◌, ◌++◌, length, refl, sym, ap, ◌∙◌, subst, arith, length-append, eqb, leb, Option, Some, None, inl, inr}
+use Rattle.std.proofs.Common.{◌≡◌, ℕ, ◌+◌, ◌<◌, ◌≤◌, Bool, true, false, not, ◌||◌, cond, List, [], ◌∷◌, ◌++◌, length, refl, sym, ap, ◌∙◌, subst, arith, length-append, eqb, leb, Option, Some, None, inl, inr}
 use Rattle.std.specs.List.{onto_first, join_with_byte}
 use Rattle.std.proofs.lemmas.List.{take-append-le}
 use Rattle.std.proofs.lemmas.Bool.{cases_lt}
 use Rattle.cy_event.specs.Heads.{awaited, malformed, parts_at, raw_lines, is_empty_line, longer_by, length_to_empty, front_length, whole_head, front_from, head_from_front, head_of}
 use Rattle.cy_event.proofs.Cuts.{join-parts_at, parts_at-some}
+use Rattle.cy_event.proofs.Fronts.{to_empty-cons}
 use Rattle.cy_head.specs.HeadGrammar.{HeadsStay}
 use Rattle.cy_head.proofs.HeadLines.{some_is, none_is_not}
 use Rattle.cy_head.proofs.HeadReads.{endless_shows, large_shows}
@@ -47,12 +48,6 @@ parts_at-append c (x ∷ xs) more =
     glue_by_test x (parts_at c xs) (parts_at c more) _ (parts_at-some c xs) (parts_at-append c xs more) (eqb x c)
 
 -- ---- the length up to the empty line
-
-pub to_empty-cons : (begun : Bool) (line : List ℕ) (lines : List (List ℕ)) → (lines ≡ [] → ⊥)
-    → length_to_empty begun (line ∷ lines) ≡ cond (begun && is_empty_line line) (Some (length line + 1))
-    (longer_by (length line + 1) (length_to_empty (begun || not (is_empty_line line)) lines))
-to_empty-cons begun line [] some = absurd (some refl)
-to_empty-cons begun line (a ∷ lines) some = refl
 
 stays_by_test : (t : Bool) (k n : ℕ) (short long : Option ℕ) → ((m : ℕ) → short ≡ Some m → long ≡ Some m)
     → cond t (Some k) (longer_by k short) ≡ Some n → cond t (Some k) (longer_by k long) ≡ Some n

@@ -10,7 +10,8 @@ use Rattle.cy_event.specs.Heads.{parts_at, raw_lines, bare, is_empty, is_empty_l
 use Rattle.cy_event.proofs.Cuts.{Lacks, join-parts_at, parts_at-first, parts_at-some}
 use Rattle.cy_head.specs.HeadGrammar.{ended, EndsHead, FrontsAreShortest}
 use Rattle.cy_head.proofs.HeadLines.{some_is, none_is_not, end_of, bare_ends, nil_from_test}
-use Rattle.cy_head.proofs.HeadGrowth.{to_empty-cons, front_stays, front_within}
+use Rattle.cy_event.proofs.Fronts.{to_empty-cons}
+use Rattle.cy_head.proofs.HeadGrowth.{front_stays, front_within}
 
 or-false : (b : Bool) → (b || false) ≡ b
 or-false true = refl

@@ -11,6 +11,7 @@ mod rule;
 pub use fault::MapFault;
 pub use laws::{exact_rule_is_found, longest_prefix_is_found};
 pub use mapper::{MAX_RULES, Mapper};
+pub use patterns::is_pattern;
 pub use rule::{Found, Rule};
 
 #[cfg(test)]

@@ -127,6 +127,18 @@ fn bad_patterns_and_repeated_rules_are_refused(rt: HostRuntime) -> Result<(), Fa
 }
 
 #[test]
+fn patterns_are_told_from_other_texts(rt: HostRuntime) {
+    let patterns: [&[u8]; 5] = [b"/", b"/a", b"/*", b"/x//*", b"*.e"];
+    for (row, text) in patterns.iter().enumerate() {
+        assert!(rt; is_pattern(text), "pattern {row}");
+    }
+    let others: [&[u8]; 7] = [b"", b"a", b"*", b"//*", b"/a*", b"*.", b"*.a.b"];
+    for (row, text) in others.iter().enumerate() {
+        assert!(rt; !is_pattern(text), "other {row}");
+    }
+}
+
+#[test]
 fn faults_are_printed(rt: HostRuntime) -> Result<(), Fail> {
     let bad = MapFault::BadPattern { i: 3 };
     let twice = MapFault::RuleTwice { i: 1, j: 2 };

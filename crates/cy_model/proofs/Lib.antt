@@ -1,10 +1,11 @@
 pub mod WorkedExample
 pub mod Repeats
 pub mod Settlings
-pub mod DatesCounted
 pub mod DatesStated
-pub mod DatesWritten
 pub mod LegalRuns
 pub mod TraceInduction
+pub mod Gone
 pub mod Counts
 pub mod Histories
+pub mod ConnectionRows
+pub mod Places

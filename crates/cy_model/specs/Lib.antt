@@ -1,4 +1,5 @@
 pub mod Marks
+pub mod Verdicts
 pub mod Folds
 pub mod Repeat
 pub mod Settling
@@ -9,4 +10,3 @@ pub mod Connections
 pub mod Steps
 pub mod Reports
 pub mod Laws
-pub mod DateText

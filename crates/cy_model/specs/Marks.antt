@@ -15,6 +15,9 @@ pub record TakenUp : Type 0 where
   -- the component that serves it, and whether it may process asynchronously
   pub part : ℕ
   pub can_async : Bool
+  -- whether its answer may leave the connection open, and whether `100 Continue` is due
+  pub keep : Bool
+  pub go_on : Bool
 
 -- what a parked callback waits for
 pub data Side : Type 0 where
@@ -28,9 +31,9 @@ pub data Mark : Type 0 where
   -- these bytes came; the socket took so many
   came : List ℕ → Mark
   sent : ℕ → Mark
-  -- a head was taken up; one was refused with a status
+  -- a head was taken up; one was refused with a status, and whether its method was HEAD
   began : TakenUp → Mark
-  refused : ℕ → Mark
+  refused : ℕ → Bool → Mark
   -- an accepted call of the state table; a dispatch may name a component
   called : Call → Option ℕ → Mark
   -- a callback began, was parked, is over

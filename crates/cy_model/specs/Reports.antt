@@ -1,6 +1,7 @@
 -- The report of a run: a line for each step, and then lines for each connection.
-use Rattle.std.specs.Prelude.{ℕ, ◌+◌, List, [], ◌∷◌, ◌++◌, length, reverse, flat_map, Option, Some, None, codes, decimal, nat_lt, if◌then◌else◌}
+use Rattle.std.specs.Prelude.{ℕ, ◌+◌, List, [], ◌∷◌, ◌++◌, length, map, reverse, flat_map, Option, Some, None, codes, decimal, nat_lt, if◌then◌else◌}
 use Rattle.cy_bytes.specs.Quoting.{quoted}
+use Rattle.cy_event.specs.Charts.{chart_of}
 use Rattle.cy_event.specs.declared.limits.Limits.{Limits}
 use Rattle.cy_event.specs.declared.steps.Call.{Call}
 use Rattle.cy_event.specs.declared.steps.Call.TheVariants as call
@@ -13,6 +14,8 @@ use Rattle.cy_event.specs.declared.steps.Reply.TheVariants as reply
 use Rattle.cy_event.specs.declared.steps.State.{State}
 use Rattle.cy_event.specs.declared.steps.State.TheVariants as state
 use Rattle.cy_event.specs.declared.steps.Step.{Step}
+use Rattle.cy_event.specs.declared.table.ChartItem.{ChartItem}
+use Rattle.cy_event.specs.declared.table.ChartItem.TheVariants.{One, Cycles}
 use Rattle.cy_map.specs.declared.rule.Rule.{Rule}
 use Rattle.cy_model.specs.Connections.{History, connections, replies}
 use Rattle.cy_model.specs.Entries.{trace_of}
@@ -49,12 +52,18 @@ reply_text reply.Wake = codes "Wake"
 reply_text reply.Entered = codes "Entered"
 reply_text (reply.Full n) = codes "Full " ++ decimal n
 reply_text (reply.Taken n) = codes "Taken " ++ decimal n
+-- no step reads content so far, so none stands beside this reply
+reply_text (reply.Got n) = codes "Got \"\""
+reply_text reply.GotEnd = codes "GotEnd"
 reply_text reply.Again = codes "Again"
 reply_text (reply.Begun j) = codes "Begun " ++ job_text j
 reply_text reply.Idle = codes "Idle"
 reply_text (reply.Illegal s) = codes "Illegal " ++ state_name s
 reply_text reply.NotActive = codes "NotActive"
 reply_text reply.NoConn = codes "NoConn"
+reply_text reply.BadValue = codes "BadValue"
+reply_text (reply.TooMany n) = codes "TooMany " ++ decimal n
+reply_text reply.Closed = codes "Closed"
 
 -- the line of the step of this number
 unfoldable pub reply_line : ℕ → Reply → List ℕ
@@ -98,30 +107,31 @@ call_name call.Fail = codes "Fail"
 call_name call.Run = codes "Run"
 call_name call.Return = codes "Return"
 
--- an item of a chart, with a space before it
-abbrev pub chart_item : Call → List ℕ
-chart_item k = codes " " ++ call_name k
+-- an item of a chart, with a space before it: a call, or how many cycles follow each other
+abbrev pub chart_item : ChartItem → List ℕ
+chart_item (One k) = codes " " ++ call_name k
+chart_item (Cycles n) = codes " Cycles " ++ decimal n
 
 -- the chart of a request of a connection
-unfoldable pub chart_line : ℕ → ℕ → List Call → List ℕ
-chart_line conn request ks =
-    codes "chart " ++ decimal conn ++ codes " " ++ decimal request ++ flat_map chart_item ks ++ line_end
+unfoldable pub chart_line : ℕ → ℕ → List ChartItem → List ℕ
+chart_line conn request items =
+    codes "chart " ++ decimal conn ++ codes " " ++ decimal request ++ flat_map chart_item items ++ line_end
 
 -- the charts of requests that are numbered from here on
-abbrev pub chart_lines : ℕ → ℕ → List (List Call) → List ℕ
+abbrev pub chart_lines : ℕ → ℕ → List (List ChartItem) → List ℕ
 chart_lines conn request [] = []
-chart_lines conn request (ks ∷ kss) = chart_line conn request ks ++ chart_lines conn (request + 1) kss
+chart_lines conn request (items ∷ rest) = chart_line conn request items ++ chart_lines conn (request + 1) rest
 
 -- What a connection came to: why it closes, how much its socket took of how much was written, all that was written,
 -- and the charts.
-unfoldable pub connection_text : ℕ → Option CloseCause → ℕ → List ℕ → List (List Call) → List ℕ
-connection_text conn why taken written kss =
+unfoldable pub connection_text : ℕ → Option CloseCause → ℕ → List ℕ → List (List ChartItem) → List ℕ
+connection_text conn why taken written items =
     codes "conn " ++ decimal conn ++ codes " " ++ cause_text why ++ codes " took " ++ decimal taken ++ codes " of "
     ++ decimal (length written) ++ line_end ++ codes "out \"" ++ quoted written ++ codes "\"" ++ line_end
-    ++ chart_lines conn 1 kss
+    ++ chart_lines conn 1 items
 
 abbrev pub trace_text : ℕ → Trace → List ℕ
-trace_text conn T = connection_text conn (cause_of T) (took T) (output T) (charts T)
+trace_text conn T = connection_text conn (cause_of T) (took T) (output T) (map chart_of (charts T))
 
 abbrev pub history_text : Limits → List Rule → History → List ℕ
 history_text limits rules h = trace_text h.number (trace_of limits rules h.entries)

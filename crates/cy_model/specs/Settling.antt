@@ -1,13 +1,15 @@
 -- What the container does by itself after a step: the first move that applies is made, until none applies.
-use Rattle.std.specs.Prelude.{ℕ, ◌+◌, ◌*◌, Bool, ◌&&◌, not, nat_le, List, [], ◌∷◌, ◌++◌, length, Option, Some, None, is_none, option_map, codes, if◌then◌else◌}
+use Rattle.std.specs.Prelude.{ℕ, ◌+◌, ◌*◌, ℤ, pos, negsuc, Bool, true, false, ◌&&◌, ◌||◌, not, nat_le, List, [], ◌∷◌, ◌++◌, length, Option, Some, None, is_none, is_some, option_map, if◌then◌else◌, ◌==◌}
 use Rattle.cy_event.specs.declared.limits.Limits.{Limits}
 use Rattle.cy_event.specs.declared.steps.CloseCause.{CloseCause}
-use Rattle.cy_event.specs.Heads.{Head, Front, awaited, found, malformed, head_of, is_plain}
-use Rattle.cy_map.specs.Mapping.{mapped}
+use Rattle.cy_event.specs.declared.steps.CloseCause.TheVariants.{InputEnd, LastAnswer, Refused}
+use Rattle.cy_event.specs.Framings.{Framed, bad_request}
+use Rattle.cy_event.specs.Heads.{Head, Front, awaited, found, malformed, head_of}
 use Rattle.cy_map.specs.declared.rule.Rule.{Rule}
-use Rattle.cy_model.specs.Marks.{Mark, began, Trace}
-use Rattle.cy_model.specs.Folds.{bytes_of, consumed, unread, cause_of, is_open, unsent}
+use Rattle.cy_model.specs.Marks.{Mark, TakenUp, began, refused, error_answer, over, caused, Trace}
+use Rattle.cy_model.specs.Folds.{begun_count, bytes_of, consumed, unread, cause_of, has_ended, is_open, unsent}
 use Rattle.cy_model.specs.Repeat.{until_none}
+use Rattle.cy_model.specs.Verdicts.{Verdict, turned_away, unserved, served, verdict_of, is_head_method, not_found_status}
 
 -- the trace with marks of one moment, the first mark first
 abbrev pub with_marks : ℕ → List Mark → Trace → Trace
@@ -26,11 +28,7 @@ first_move (Some ms ∷ moves) = Some ms
 abbrev pub after_move : ℕ → Trace → Move → Option Trace
 after_move t T move = option_map (λ ms. with_marks t ms T) move
 
--- ---- taking up a head
-
--- The rule by which a head is served. Only plain requests are served so far, and the path of their target `/` is itself.
-unfoldable pub rule_for : List Rule → Head → Option Rule
-rule_for rules head = if is_plain head then mapped rules (codes "/") else None
+-- ---- when a head may be taken up
 
 -- as many bytes may wait for the socket as a further head is taken up
 abbrev pub begin_bound : ℕ
@@ -43,27 +41,95 @@ may_begin_by is_open cause unsent = not is_open && (is_none cause && nat_le (len
 abbrev pub may_begin : Trace → Bool
 may_begin T = may_begin_by (is_open T) (cause_of T) (unsent T)
 
-abbrev pub begin_by : ℕ → ℕ → Head → Option Rule → Move
-begin_by place size head None = None
-begin_by place size head (Some r) =
-    Some (began (record { place = place; size = size; head = head; part = r.part; can_async = r.can_async }) ∷ [])
+-- what stands at the front of the bytes that wait
+abbrev pub front_of : Limits → Trace → Front
+front_of limits T = head_of limits.max_head limits.max_fields (unread T)
 
--- what is done with what stands at the front of the bytes that wait, which begin at this place
-abbrev pub take_up_front : List Rule → ℕ → Front → Move
-take_up_front rules place awaited = None
-take_up_front rules place malformed = None
-take_up_front rules place (found size head) = begin_by place size head (rule_for rules head)
+-- ---- the end of a request
+
+-- where there is no cause yet, the answer that says that the connection closes is the last one
+abbrev pub last_answer_marks : Bool → Option CloseCause → List Mark
+last_answer_marks keep cause = if keep || is_some cause then [] else caused LastAnswer ∷ []
+
+abbrev pub end_marks_by : Bool → Option CloseCause → List Mark
+end_marks_by keep cause = over ∷ last_answer_marks keep cause
+
+-- ---- taking up a head
+
+-- what the front of the bytes that wait leads to
+pub data Due : Type 0 where
+  -- nothing yet
+  nothing : Due
+  -- a refusal with this status, of a HEAD request or not
+  refusal : ℕ → Bool → Due
+  -- a request begins; no rule serves it
+  not_found : TakenUp → Due
+  -- a request begins
+  request : TakenUp → Due
+
+-- the request of this number is the last that its connection may have
+abbrev pub is_last_number : ℤ → ℕ → Bool
+is_last_number (pos n) number = n == number
+is_last_number (negsuc n) number = false
+
+-- a head of this size at this place is taken up, of a request of this number
+abbrev pub taken_up_by : Limits → ℕ → ℕ → ℕ → Head → Framed → ℕ → Bool → TakenUp
+taken_up_by limits place number size head f part can_async = record {
+  place = place;
+  size = size;
+  head = head;
+  part = part;
+  can_async = can_async;
+  keep = f.keep && not (is_last_number limits.max_keep_alive number);
+  go_on = f.go_on;
+}
+
+abbrev pub without_continue : TakenUp → TakenUp
+without_continue r = record r { go_on = false }
+
+abbrev pub due_by_verdict : Limits → ℕ → ℕ → ℕ → Head → Verdict → Due
+due_by_verdict limits place number size head (turned_away status) = refusal status (is_head_method head)
+due_by_verdict limits place number size head (unserved f) =
+    not_found (without_continue (taken_up_by limits place number size head f 0 false))
+due_by_verdict limits place number size head (served rule f) =
+    request (taken_up_by limits place number size head f rule.part rule.can_async)
+
+-- of the bytes that begin at this place, for a request of this number
+abbrev pub due_by_front : Limits → List Rule → ℕ → ℕ → Front → Due
+due_by_front limits rules place number awaited = nothing
+due_by_front limits rules place number malformed = refusal bad_request false
+due_by_front limits rules place number (found size head) = due_by_verdict limits place number size head (verdict_of rules head)
+
+abbrev pub due_of : Limits → List Rule → Trace → Due
+due_of limits rules T = due_by_front limits rules (consumed T) (begun_count T + 1) (front_of limits T)
+
+-- the marks of what is due; a request that no rule serves is answered at once
+abbrev pub due_move : Due → Move
+due_move nothing = None
+due_move (refusal status to_head) = Some (refused status to_head ∷ caused Refused ∷ [])
+due_move (not_found r) = Some (began r ∷ error_answer not_found_status ∷ end_marks_by r.keep None)
+due_move (request r) = Some (began r ∷ [])
 
 abbrev pub head_move : Limits → List Rule → Trace → Move
-head_move limits rules T =
-    if may_begin T then take_up_front rules (consumed T) (head_of limits.max_head limits.max_fields (unread T))
-    else None
+head_move limits rules T = if may_begin T then due_move (due_of limits rules T) else None
+
+-- ---- the end of the input
+
+abbrev pub is_awaited : Front → Bool
+is_awaited awaited = true
+is_awaited (found size head) = false
+is_awaited malformed = false
+
+-- no further head can come
+abbrev pub end_move : Limits → Trace → Move
+end_move limits T =
+    if may_begin T && (has_ended T && is_awaited (front_of limits T)) then Some (caused InputEnd ∷ []) else None
 
 -- ---- the moves
 
--- all moves but taking up a head, in their order; there is none so far
+-- all moves but taking up a head, in their order
 abbrev pub quiet_moves : Limits → Trace → List Move
-quiet_moves limits T = []
+quiet_moves limits T = end_move limits T ∷ []
 
 abbrev pub next_move : Limits → List Rule → Trace → Move
 next_move limits rules T = first_move (quiet_moves limits T ++ head_move limits rules T ∷ [])

@@ -12,5 +12,9 @@ fn laws_ask_for_nothing(_rt: HostRuntime) -> Result<(), Fail> {
     laws::runs_are_legal();
     laws::charts_are_legal();
     laws::limit_is_kept();
+    laws::gone_stays_gone();
+    laws::no_head_waits();
+    laws::heads_are_at_their_places();
+    laws::own_entries_decide();
     Ok(())
 }

@@ -1,4 +1,11 @@
+pub mod Words
 pub mod Lines
 pub mod Quoted
-pub mod Form
+pub mod FieldsRead
+pub mod StepLines
+pub mod StatementLines
+pub mod RuleLists
+pub mod Sayings
+pub mod Scripts
+pub mod KeptBy
 pub mod Answered

@@ -1,12 +1,12 @@
 -- The lines of a text, from its front and from its parts.
-use Rattle.std.proofs.Common.{◌≡◌, ◌≢◌, ℕ, suc, ◌+◌, ◌<◌, ◌≤◌, inl, inr, Bool, true, false, cond, ◌&&◌, not, eqb, ltb, List, [], ◌∷◌, ◌++◌, length, take, drop, Some, None, refl, sym, ap, subst, ◌∙◌, append_assoc, arith}
+use Rattle.std.proofs.Common.{◌≡◌, ◌≢◌, ℕ, suc, ◌+◌, ◌<◌, ◌≤◌, ◌⊎◌, inl, inr, Bool, true, false, cond, not, eqb, ltb, List, [], ◌∷◌, ◌++◌, length, take, drop, Some, None, refl, sym, ap, subst, ◌∙◌, append_assoc, arith}
 use Rattle.std.specs.List.{position, position_or_len}
 use Rattle.std.proofs.lemmas.Bool.{ltb-true, ltb-false}
 use Rattle.std.proofs.lemmas.Bool.Decides.{nat_tests}
-use Rattle.std.proofs.lemmas.List.{append-nil, append_cancel_right}
-use Rattle.std.proofs.lemmas.Grind.{flat_map-append}
 use Rattle.std.proofs.lemmas.Option.{cond_some}
-use Rattle.cy_script.specs.Spelling.{ended, HasLines}
+use Rattle.std.specs.List.{list_all}
+use Rattle.cy_script.specs.Lines.{ended, lacks, HasLines}
+use Rattle.cy_script.proofs.Words.{and_parts, not_true}
 use Rattle.cy_script.specs.Reading.{in_first, before, lines_of}
 
 -- the byte ends a line
@@ -54,92 +54,79 @@ pub is_something : (text : List ℕ) → false ≡ eqb (length text) 0 → text 
 is_something [] h e = absurd cc
 is_something (b ∷ text) h e = absurd cc
 
--- A text with a byte has a line.
-pub has_line : (text : List ℕ) → text ≢ [] → (line : List ℕ) × (rest : List (List ℕ)) × (lines_of text ≡ line ∷ rest)
-has_line [] some = absurd (some refl)
-has_line (b ∷ text) some =
-    elim (eqb b 10) as (λ t. (line : List ℕ) × (rest : List (List ℕ)) × (cond t ([] ∷ lines_of text) (in_first b (lines_of text)) ≡ line ∷ rest)) [
-      | true ↦ ([], lines_of text, refl)
-      | false ↦ elim (lines_of text) as (λ lines. (line : List ℕ) × (rest : List (List ℕ)) × (in_first b lines ≡ line ∷ rest)) [
-        | [] ↦ (b ∷ [], [], refl)
-        | line ∷ rest ↦ (b ∷ line, rest, refl)
-      ]
-    ]
-
 -- ---- a text has the lines that are read of it
 
 feed_first : (text : List ℕ) (lines : List (List ℕ)) → HasLines text lines → HasLines (10 ∷ text) ([] ∷ lines)
-feed_first text lines (inl e) = inl (ap (λ (t : List ℕ). 10 ∷ t) e)
-feed_first text lines (inr e) = inr (ap (λ (t : List ℕ). 10 ∷ t) e)
+feed_first text lines h = record {
+  whole = h.whole;
+  parts = elim h.parts as (λ p. (10 ∷ text ≡ ended ([] ∷ lines)) ⊎ ((10 ∷ text) ++ 10 ∷ [] ≡ ended ([] ∷ lines))) [
+    | inl e ↦ inl (ap (λ (t : List ℕ). 10 ∷ t) e)
+    | inr e ↦ inr (ap (λ (t : List ℕ). 10 ∷ t) e)
+  ];
+}
 
-byte_first : (b : ℕ) (text : List ℕ) (lines : List (List ℕ)) → HasLines text lines → HasLines (b ∷ text) (in_first b lines)
-byte_first b text [] (inl e) = inr (ap (λ (t : List ℕ). b ∷ t ++ 10 ∷ []) e)
-byte_first b [] [] (inr e) = absurd cc
-byte_first b (c ∷ text) [] (inr e) = absurd cc
-byte_first b text (line ∷ lines) (inl e) = inl (ap (λ (t : List ℕ). b ∷ t) e)
-byte_first b text (line ∷ lines) (inr e) = inr (ap (λ (t : List ℕ). b ∷ t) e)
+byte_first_whole : (b : ℕ) (lines : List (List ℕ)) → eqb b 10 ≡ false → list_all (lacks 10) lines ≡ true → list_all (lacks 10) (in_first b lines) ≡ true
+byte_first_whole b [] other h = rw other refl
+byte_first_whole b (line ∷ lines) other h = rw other h
+
+byte_first_parts : (b : ℕ) (text : List ℕ) (lines : List (List ℕ)) → (text ≡ ended lines) ⊎ (text ++ 10 ∷ [] ≡ ended lines)
+    → (b ∷ text ≡ ended (in_first b lines)) ⊎ ((b ∷ text) ++ 10 ∷ [] ≡ ended (in_first b lines))
+byte_first_parts b text [] (inl e) = inr (ap (λ (t : List ℕ). b ∷ t ++ 10 ∷ []) e)
+byte_first_parts b [] [] (inr e) = absurd cc
+byte_first_parts b (c ∷ text) [] (inr e) = absurd cc
+byte_first_parts b text (line ∷ lines) (inl e) = inl (ap (λ (t : List ℕ). b ∷ t) e)
+byte_first_parts b text (line ∷ lines) (inr e) = inr (ap (λ (t : List ℕ). b ∷ t) e)
 
 pub has_its_lines : (text : List ℕ) → HasLines text (lines_of text)
-has_its_lines [] = inl refl
+has_its_lines [] = record { whole = refl; parts = inl refl }
 has_its_lines (b ∷ text) =
     elim (eqb b 10) as (λ t. eqb b 10 ≡ t → HasLines (b ∷ text) (cond t ([] ∷ lines_of text) (in_first b (lines_of text)))) [
       | true ↦ λ e. let feed : b ≡ 10 = grind (arith, nat_tests, e) in rw feed (feed_first text (lines_of text) (has_its_lines text))
-      | false ↦ λ e. byte_first b text (lines_of text) (has_its_lines text)
+      | false ↦ λ e.
+          let rest = has_its_lines text in
+          record { whole = byte_first_whole b (lines_of text) e rest.whole; parts = byte_first_parts b text (lines_of text) rest.parts }
     ] refl
 
 -- ---- lines that are written are read
 
--- no byte of the line is a line feed
-abbrev pub no_feed : List ℕ → Bool
-no_feed [] = true
-no_feed (b ∷ line) = not (eqb b 10) && no_feed line
-
-and_parts : (s t : Bool) → (not s && t) ≡ true → (s ≡ false) × (t ≡ true)
-and_parts true t h = absurd cc
-and_parts false t h = (refl, h)
-
-pub no_feed-append : (s t : List ℕ) → no_feed s ≡ true → no_feed t ≡ true → no_feed (s ++ t) ≡ true
-no_feed-append [] t h k = k
-no_feed-append (b ∷ s) t h k =
-    let parts = and_parts (eqb b 10) (no_feed s) h in
-    rw parts.0 (no_feed-append s t parts.1 k)
-
-pub ended_line : (line rest : List ℕ) → no_feed line ≡ true → lines_of (line ++ 10 ∷ rest) ≡ line ∷ lines_of rest
+ended_line : (line rest : List ℕ) → lacks 10 line ≡ true → lines_of (line ++ 10 ∷ rest) ≡ line ∷ lines_of rest
 ended_line [] rest h = refl
 ended_line (b ∷ line) rest h =
-    let parts = and_parts (eqb b 10) (no_feed line) h in
-    ap (before b) (ended_line line rest parts.1) ∙ rw parts.0 refl
+    let parts = and_parts (not (eqb b 10)) (lacks 10 line) h in
+    let other : eqb b 10 ≡ false = not_true (eqb b 10) parts.0 in
+    ap (before b) (ended_line line rest parts.1) ∙ rw other refl
 
-pub last_line : (b : ℕ) (line : List ℕ) → no_feed (b ∷ line) ≡ true → lines_of (b ∷ line) ≡ (b ∷ line) ∷ []
-last_line b [] h =
-    let parts = and_parts (eqb b 10) true h in
-    rw parts.0 refl
-last_line b (c ∷ line) h =
-    let parts = and_parts (eqb b 10) (no_feed (c ∷ line)) h in
-    ap (before b) (last_line c line parts.1) ∙ rw parts.0 refl
+ended_lines : (lines : List (List ℕ)) → list_all (lacks 10) lines ≡ true → lines_of (ended lines) ≡ lines
+ended_lines [] h = refl
+ended_lines (line ∷ lines) h =
+    let parts = and_parts (lacks 10 line) (list_all (lacks 10) lines) h in
+    ap lines_of (append_assoc line (10 ∷ []) (ended lines)) ∙ ended_line line (ended lines) parts.0 ∙ ap (λ (ls : List (List ℕ)). line ∷ ls) (ended_lines lines parts.1)
 
--- each line is without a line feed
-abbrev pub all_clean : List (List ℕ) → Bool
-all_clean [] = true
-all_clean (line ∷ lines) = no_feed line && all_clean lines
+-- lines without or with an empty one behind them
+abbrev pub AreSameButEmpty : List (List ℕ) → List (List ℕ) → Type 0
+AreSameButEmpty lines more = (more ≡ lines) ⊎ (more ≡ lines ++ [] ∷ [])
 
-both : (s t : Bool) → (s && t) ≡ true → (s ≡ true) × (t ≡ true)
-both true t h = (refl, h)
-both false t h = absurd cc
+empty_behind : (b : ℕ) (lines : List (List ℕ)) → AreSameButEmpty (before b lines) (before b (lines ++ [] ∷ []))
+empty_behind b [] = elim (eqb b 10) as (λ t. AreSameButEmpty (cond t ([] ∷ []) (in_first b [])) (cond t ([] ∷ [] ∷ []) (in_first b ([] ∷ [])))) [
+  | true ↦ inr refl
+  | false ↦ inl refl
+]
+empty_behind b (line ∷ lines) = elim (eqb b 10) as (λ t. AreSameButEmpty (cond t ([] ∷ line ∷ lines) (in_first b (line ∷ lines))) (cond t ([] ∷ (line ∷ lines) ++ [] ∷ []) (in_first b ((line ∷ lines) ++ [] ∷ [])))) [
+  | true ↦ inr refl
+  | false ↦ inr refl
+]
 
-pub ended_lines : (lines : List (List ℕ)) (rest : List ℕ) → all_clean lines ≡ true → lines_of (ended lines ++ rest) ≡ lines ++ lines_of rest
-ended_lines [] rest h = refl
-ended_lines (line ∷ lines) rest h =
-    let parts = both (no_feed line) (all_clean lines) h in
-    let regrouped : ended (line ∷ lines) ++ rest ≡ line ++ 10 ∷ (ended lines ++ rest) = append_assoc (line ++ 10 ∷ []) (ended lines) rest ∙ append_assoc line (10 ∷ []) (ended lines ++ rest) in
-    ap lines_of regrouped ∙ ended_line line (ended lines ++ rest) parts.0 ∙ ap (λ (ls : List (List ℕ)). line ∷ ls) (ended_lines lines rest parts.1)
+-- A further line feed ends the last line, or an empty one behind it.
+lines_of-feed : (text : List ℕ) → AreSameButEmpty (lines_of text) (lines_of (text ++ 10 ∷ []))
+lines_of-feed [] = inr refl
+lines_of-feed (b ∷ text) = elim (lines_of-feed text) as (λ _. AreSameButEmpty (before b (lines_of text)) (before b (lines_of (text ++ 10 ∷ [])))) [
+  | inl e ↦ inl (ap (before b) e)
+  | inr e ↦ subst (λ (ls : List (List ℕ)). AreSameButEmpty (before b (lines_of text)) (before b ls)) (sym e) (empty_behind b (lines_of text))
+]
 
--- Clean lines, the last of which is not empty, are the lines of each text that has them.
-pub lines_again : (text : List ℕ) (lines : List (List ℕ)) (b : ℕ) (last : List ℕ) → all_clean lines ≡ true → no_feed (b ∷ last) ≡ true
-    → HasLines text (lines ++ (b ∷ last) ∷ []) → lines_of text ≡ lines ++ (b ∷ last) ∷ []
-lines_again text lines b last clean tidy (inl e) =
-    let parts : text ≡ ended lines ++ ((b ∷ last) ++ 10 ∷ []) = e ∙ flat_map-append (λ (line : List ℕ). line ++ 10 ∷ []) lines ((b ∷ last) ∷ []) ∙ ap (λ (t : List ℕ). ended lines ++ t) (append-nil ((b ∷ last) ++ 10 ∷ [])) in
-    ap lines_of parts ∙ ended_lines lines ((b ∷ last) ++ 10 ∷ []) clean ∙ ap (λ (ls : List (List ℕ)). lines ++ ls) (ended_line (b ∷ last) [] tidy)
-lines_again text lines b last clean tidy (inr e) =
-    let parts : text ++ 10 ∷ [] ≡ (ended lines ++ (b ∷ last)) ++ 10 ∷ [] = e ∙ flat_map-append (λ (line : List ℕ). line ++ 10 ∷ []) lines ((b ∷ last) ∷ []) ∙ ap (λ (t : List ℕ). ended lines ++ t) (append-nil ((b ∷ last) ++ 10 ∷ [])) ∙ sym (append_assoc (ended lines) (b ∷ last) (10 ∷ [])) in
-    ap lines_of (append_cancel_right text (ended lines ++ (b ∷ last)) (10 ∷ []) parts) ∙ ended_lines lines (b ∷ last) clean ∙ ap (λ (ls : List (List ℕ)). lines ++ ls) (last_line b last tidy)
+-- The lines of a text are those that are read, but for an empty one behind them.
+pub lines_are_read : (text : List ℕ) (lines : List (List ℕ)) → HasLines text lines → AreSameButEmpty (lines_of text) lines
+lines_are_read text lines h = elim h.parts as (λ _. AreSameButEmpty (lines_of text) lines) [
+  | inl e ↦ inl (sym (ap lines_of e ∙ ended_lines lines h.whole))
+  | inr e ↦ subst (λ (ls : List (List ℕ)). AreSameButEmpty (lines_of text) ls) (ap lines_of e ∙ ended_lines lines h.whole) (lines_of-feed text)
+]

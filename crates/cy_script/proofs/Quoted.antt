@@ -1,15 +1,12 @@
 -- What a line quotes.
-use Rattle.std.proofs.Common.{◌≡◌, ◌≢◌, ℕ, ◌-◌, Bool, true, cond, List, [], ◌∷◌, ◌++◌, length, take, drop, Option, Some, None, refl, sym, ap, ◌∙◌, append_assoc, arith}
+use Rattle.std.proofs.Common.{◌≡◌, ◌≢◌, ℕ, ◌-◌, Bool, true, cond, List, ◌++◌, length, take, drop, Option, Some, None, refl, sym, ap, ◌∙◌, append_assoc, arith}
 use Rattle.std.specs.Prelude.{MatchOption, option_map}
 use Rattle.std.specs.Borrow.{Bor}
 use Rattle.std.specs.Str.{bytes_eq}
-use Rattle.std.proofs.lemmas.Bool.Decides.{nat_tests}
 use Rattle.std.proofs.lemmas.List.{append_cancel_left, length-append, take_at, drop_at}
 use Rattle.std.proofs.lemmas.Option.{cond_some}
 use Rattle.std.proofs.lemmas.Slice.Eq.{bytes_eq-Decides}
-use Rattle.cy_bytes.specs.Quoting.{Item, Itself, Escape, HexEscape, item_text, StandsFor, IsSpelling}
 use Rattle.cy_script.specs.Reading.{between}
-use Rattle.cy_script.proofs.Lines.{no_feed, no_feed-append}
 
 pub between_is : (front back line inner : List ℕ) → between front back line ≡ Some inner → line ≡ front ++ inner ++ back
 between_is front back line inner h =
@@ -45,13 +42,3 @@ stripped front back line rest None opens h = sym (between_none front back line (
 stripped front back line rest (Some x) opens h =
     let parts : line ≡ front ++ x.now ++ back = opens ∙ ap (λ (t : List ℕ). front ++ t) h ∙ sym (append_assoc front x.now back) in
     sym (ap (between front back) parts ∙ between_again front back x.now)
-
--- A spelling has no line feed.
-item_clean : (item : Item) (b : ℕ) → StandsFor item b → no_feed (item_text item) ≡ true
-item_clean (Itself c) b h = grind (arith, nat_tests)
-item_clean (Escape letter) b h = grind (arith, nat_tests)
-item_clean (HexEscape high low) b h = grind (arith, nat_tests)
-
-pub spelling_clean : (bytes text : List ℕ) → IsSpelling text bytes → no_feed text ≡ true
-spelling_clean [] text h = ap no_feed h
-spelling_clean (b ∷ bytes) text h = ap no_feed h.3 ∙ no_feed-append (item_text h.0) h.1 (item_clean h.0 b h.2) (spelling_clean bytes h.1 h.4)

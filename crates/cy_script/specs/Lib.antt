@@ -1,4 +1,10 @@
+pub mod Settings
+pub mod Lines
+pub mod Conditions
 pub mod Spelling
+pub mod Kept
 pub mod Reading
+pub mod Drafts
 pub mod Answers
 pub mod Quotes
+pub mod Example

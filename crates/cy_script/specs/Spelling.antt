@@ -1,58 +1,71 @@
--- A script as it is written: its lines, and the steps that they stand for.
-use Rattle.std.specs.Prelude.{◌≡◌, ℕ, ◌≤◌, ◌⊎◌, List, [], ◌∷◌, ◌++◌, length, codes}
-use Rattle.std.specs.List.{flat_map}
-use Rattle.cy_bytes.specs.Quoting.{IsSpelling}
-use Rattle.cy_event.specs.declared.steps.Act.TheVariants as act
-use Rattle.cy_event.specs.declared.steps.Event.TheVariants as event
+-- A script as it is written: its lines, and what they say together.
+use Rattle.std.specs.Prelude.{◌≡◌, ℕ, ◌+◌, max, Bool, true, false, not, List, [], ◌∷◌, codes, negsuc, Option, Some, None, fold}
+use Rattle.std.specs.List.{AllZip, filter_map, list_all}
+use Rattle.cy_event.specs.Limits.{standard}
+use Rattle.cy_event.specs.declared.limits.Limits.{Limits}
 use Rattle.cy_event.specs.declared.steps.Step.{Step}
-use Rattle.cy_event.specs.declared.steps.Step.TheVariants as step
+use Rattle.cy_map.specs.declared.rule.Rule.{Rule}
+use Rattle.cy_script.specs.declared.script.Script.{Script}
+use Rattle.cy_script.specs.declared.statements.Statement.{Statement}
+use Rattle.cy_script.specs.declared.statements.Statement.TheVariants as statement
+use Rattle.cy_script.specs.Conditions.{AreRules, AreSteps}
+use Rattle.cy_script.specs.Lines.{HasLines, IsWritten}
+use Rattle.cy_script.specs.Settings.{with_setting}
 
--- the steps of the form: one connection comes in with bytes, and its callback writes bytes and returns
-abbrev pub form_steps : List ℕ → List ℕ → List Step
-form_steps came written =
-    step.Admit 1
-    ∷ step.On 1 event.In came
-    ∷ step.Run 1
-    ∷ step.Act 1 (act.Write (length written)) written
-    ∷ step.Act 1 act.Return []
-    ∷ []
+-- ---- what the statements say together
 
--- the lines of the form, which quote a text where bytes come in, and one where bytes are written
-abbrev pub form_lines : List ℕ → List ℕ → List (List ℕ)
-form_lines came written =
-    codes "coyote-script 1"
-    ∷ codes "rule / 0 async"
-    ∷ codes "admit 1"
-    ∷ (codes "in 1 \"" ++ came ++ codes "\"")
-    ∷ codes "run 1"
-    ∷ (codes "act 1 write \"" ++ written ++ codes "\"")
-    ∷ codes "return 1"
-    ∷ []
+abbrev pub rule_of : Statement → Option Rule
+rule_of (statement.Rule rule) = Some rule
+rule_of s = None
 
--- the byte at the end of a line
-abbrev pub line_feed : ℕ
-line_feed = 10
+abbrev pub step_of : Statement → Option Step
+step_of (statement.Step step) = Some step
+step_of s = None
 
--- lines one after another, each with its line feed
-abbrev pub ended : List (List ℕ) → List ℕ
-ended lines = flat_map (λ line. line ++ line_feed ∷ []) lines
+-- the limits behind a statement; a later value of a setting replaces the former
+abbrev pub limits_after : Limits → Statement → Limits
+limits_after limits (statement.Set setting value) = with_setting setting value limits
+limits_after limits statement.NoLimit = record limits { max_keep_alive = negsuc 0 }
+limits_after limits s = limits
 
--- The text has these lines. The last may lack its line feed.
-abbrev pub HasLines : List ℕ → List (List ℕ) → Type 0
-HasLines text lines = (text ≡ ended lines) ⊎ (text ++ line_feed ∷ [] ≡ ended lines)
+-- one more than the greatest number of a component, or 0 without rules
+abbrev pub parts_of : List Rule → ℕ
+parts_of rules = fold (λ parts rule. max parts (rule.part + 1)) 0 rules
 
--- The most bytes that the form's callback writes.
-abbrev pub most_written : ℕ
-most_written = 8192
+-- what statements say: the settings over the defaults, the rules, and the steps
+abbrev pub said_by : List Statement → Script
+said_by statements = record {
+  limits = record (fold limits_after (standard 0) statements) { parts = parts_of (filter_map rule_of statements) };
+  rules = filter_map rule_of statements;
+  steps = filter_map step_of statements;
+}
 
--- The text is a script of these steps.
-pub record IsScriptText (text : List ℕ) (steps : List Step) : Type 0 where
-  pub came_text : List ℕ
-  pub came : List ℕ
-  pub written_text : List ℕ
-  pub written : List ℕ
-  pub lines : HasLines text (form_lines came_text written_text)
-  pub comes : IsSpelling came_text came
-  pub writes : IsSpelling written_text written
-  pub short : length written ≤ most_written
-  pub its_steps : steps ≡ form_steps came written
+-- ---- their order
+
+abbrev pub is_for_the_front : Statement → Bool
+is_for_the_front (statement.Set setting value) = true
+is_for_the_front statement.NoLimit = true
+is_for_the_front (statement.Rule rule) = true
+is_for_the_front s = false
+
+-- settings and rules stand before every step
+abbrev pub IsInOrder : List Statement → Type 0
+IsInOrder [] = Unit {0}
+IsInOrder (statement.Step step ∷ rest) = list_all (λ s. not (is_for_the_front s)) rest ≡ true
+IsInOrder (s ∷ rest) = IsInOrder rest
+
+-- ---- the script
+
+abbrev pub first_line : List ℕ
+first_line = codes "coyote-script 1"
+
+-- The text is this script: behind the first line, each line is a statement as it is written.
+pub record IsScriptText (text : List ℕ) (script : Script) : Type 0 where
+  pub lines : List (List ℕ)
+  pub statements : List Statement
+  pub has_lines : HasLines text (first_line ∷ lines)
+  pub are_written : AllZip IsWritten statements lines
+  pub in_order : IsInOrder statements
+  pub says : script ≡ said_by statements
+  pub rules : AreRules script.rules
+  pub steps : AreSteps script.steps

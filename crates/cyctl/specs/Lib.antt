@@ -1,9 +1,7 @@
+pub mod Parts
+pub mod Lives
 pub mod Answered
 pub mod Causes
 pub mod Connecting
-pub mod FoundHeads
-pub mod PartChanges
-pub mod Parts
 pub mod Running
-pub mod Stages
 pub mod Tool

@@ -1,58 +1,40 @@
--- What the program keeps of a connection, and which traces it stands for.
-use Rattle.std.specs.Prelude.{◌≡◌, ◌≤◌, ℕ, Bool, List, [], ◌∷◌, ◌++◌, Option, length, if◌then◌else◌}
-use Rattle.cy_event.specs.declared.steps.Call.{Call}
-use Rattle.cy_event.specs.declared.steps.CloseCause.{CloseCause}
-use Rattle.cy_event.specs.declared.steps.Job.{Job}
-use Rattle.cy_event.specs.declared.steps.State.{State}
-use Rattle.cy_event.specs.Answers.{Answer}
-use Rattle.cy_model.specs.Folds.{bytes_of, consumed, unread, cause_of, is_broken, is_open, part_of, running, is_served, calls, state_of, answer_of, ended_charts, output, took}
+-- What the program keeps of a connection, and which traces that stands for.
+use Rattle.std.specs.Prelude.{◌≡◌, ℕ, false, List, ◌++◌}
+use Rattle.cy_event.specs.declared.limits.Limits.{Limits}
+use Rattle.cy_event.specs.declared.table.ChartItem.{ChartItem}
+use Rattle.cy_model.specs.Folds.{output}
 use Rattle.cy_model.specs.Marks.{Trace}
+use Rattle.cy_proc.specs.Lines.{LineParts}
+use Rattle.cy_proc.specs.ProcessorAnswers.{Serves, ended_items}
+use Rattle.cy_proc.specs.Processors.{ProcessorParts, is_over_at, over_charts}
+use Rattle.cyctl.specs.declared.settings.Settings.{Settings}
 
+-- line and processor, with the charts of the requests that have ended
+pub record LiveParts : Type 0 where
+  pub limits : Limits
+  pub line : LineParts
+  pub processor : ProcessorParts
+  pub charts : List (List ChartItem)
+
+-- They stand for the trace. The chart of a request that is over is the processor's until it is kept.
+pub record Lives (T : Trace) (p : LiveParts) : Type 0 where
+  pub serves : Serves T p.line p.processor
+  pub limits : p.processor.limits ≡ p.limits
+  pub charts : p.charts ++ over_charts p.processor ≡ ended_items T
+
+-- beside it all that was written
 pub record Parts : Type 0 where
-  -- the bytes that wait, and how many came in all
-  pub unread : List ℕ
-  pub came : ℕ
-  -- the open request
-  pub is_open : Bool
-  pub part : ℕ
-  pub running : Option Job
-  pub is_served : Bool
-  pub calls : List Call
-  pub state : State
-  pub answer : Answer
-  -- the charts of the requests that have ended
-  pub ended_charts : List (List Call)
-  -- all that was written, and how much of it the socket took
-  pub output : List ℕ
-  pub took : ℕ
-  -- why the connection closes
-  pub cause : Option CloseCause
-  pub is_broken : Bool
+  pub live : LiveParts
+  pub written : List ℕ
 
--- the parts that a trace leaves
-abbrev pub parts : Trace → Parts
-parts T = record {
-  unread = unread T;
-  came = length (bytes_of T);
-  is_open = is_open T;
-  part = part_of T;
-  running = running T;
-  is_served = is_served T;
-  calls = calls T;
-  state = state_of T;
-  answer = answer_of T;
-  ended_charts = ended_charts T;
-  output = output T;
-  took = took T;
-  cause = cause_of T;
-  is_broken = is_broken T;
-}
+-- the only moment so far, since no step of the clock is in the form
+abbrev pub start : ℕ
+start = 0
 
--- the charts of all requests
-abbrev pub charts_of : Parts → List (List Call)
-charts_of p = if p.is_open then p.ended_charts ++ p.calls ∷ [] else p.ended_charts
-
--- The parts stand for the trace; no request took more bytes than came.
-pub record Represents (T : Trace) (p : Parts) : Type 0 where
-  pub same : p ≡ parts T
-  pub within : consumed T ≤ length (bytes_of T)
+-- between two entries the parts stand for the trace
+pub record Keeps (s : Settings) (T : Trace) (p : Parts) : Type 0 where
+  pub lives : Lives T p.live
+  pub limits : p.live.limits ≡ s.limits
+  pub moment : p.live.line.moment ≡ start
+  pub kept : is_over_at p.live.processor.stage ≡ false
+  pub written : p.written ≡ output T

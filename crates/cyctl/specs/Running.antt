@@ -2,11 +2,10 @@
 use Rattle.std.specs.Prelude.{◌≡◌, List}
 use Rattle.cy_event.specs.declared.steps.Step.{Step}
 use Rattle.cy_model.specs.Connections.{replies}
-use Rattle.cyctl.specs.Answered.{rules_of}
 use Rattle.cyctl.specs.Connecting.{StandsFor}
 use Rattle.cyctl.specs.declared.run.Run.{Run}
 
 -- the run has taken these steps, the newest first
 pub record RunsTo (w : List Step) (run : Run) : Type 0 where
-  pub replies : run.replies.items ≡ replies run.connector.settings.limits (rules_of run.connector.settings) w
+  pub replies : run.replies.items ≡ replies run.connector.settings.limits run.connector.settings.rules w
   pub stands : StandsFor w run.connector

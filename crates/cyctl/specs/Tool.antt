@@ -1,23 +1,19 @@
 -- What the program writes for its words and its input.
-use Rattle.std.specs.Prelude.{◌≡◌, ◌⊎◌, ℕ, Bool, true, false, ◌&&◌, List, [], ◌∷◌, length, map, reverse, Option, Some, None, IsSome, ◌≤◌, option_and_then, option_map, codes, string_bytes, String, ◌==◌, if◌then◌else◌}
+use Rattle.std.specs.Prelude.{◌≡◌, ◌⊎◌, ℕ, List, [], ◌∷◌, length, map, reverse, Option, Some, None, IsSome, ◌≤◌, option_map, codes, string_bytes, String}
 use Rattle.std.specs.declared.alloc.Global.{Global}
 use Rattle.std.specs.Io.KnownBytes.{Appends}
-use Rattle.cy_event.specs.Heads.{Front, awaited, found, malformed, head_of, is_plain}
-use Rattle.cy_event.specs.Limits.{standard}
-use Rattle.cy_event.specs.declared.steps.Step.{Step}
-use Rattle.cy_event.specs.declared.steps.Step.TheVariants as step
 use Rattle.cy_link.specs.Causes.{Rose}
 use Rattle.cy_model.specs.Reports.{report}
 use Rattle.cy_model.specs.Steps.{IsValid}
 use Rattle.cy_script.specs.Reading.{script_of}
 use Rattle.cy_script.specs.declared.fault.ScriptFault.{ScriptFault}
-use Rattle.cy_script.specs.declared.fault.ScriptFault.TheVariants as script
+use Rattle.cy_script.specs.declared.fault.ScriptFault.TheVariants as script_fault
+use Rattle.cy_script.specs.declared.script.Script.{Script}
 use Rattle.cyctl.specs.declared.input.TheConstants.{GREATEST_INPUT}
 use Rattle.cyctl.specs.declared.input.InputFault.{InputFault}
 use Rattle.cyctl.specs.declared.input.InputFault.TheVariants as fault
 use Rattle.cyctl.specs.declared.tool.Refusal.{Refusal}
 use Rattle.cyctl.specs.declared.tool.Refusal.TheVariants as refusal
-use Rattle.cyctl.specs.Answered.{default_rule}
 use Rattle.cyctl.specs.Causes.{ReadsAll, WritesFront}
 
 -- ---- the words
@@ -28,37 +24,13 @@ IsReplay words = map string_bytes words ≡ codes "replay" ∷ []
 
 -- ---- what is replayed
 
--- the front is all of n bytes, and a plain head
-abbrev pub is_whole_head : ℕ → Front → Bool
-is_whole_head n awaited = false
-is_whole_head n malformed = false
-is_whole_head n (found size h) = (size == n) && is_plain h
-
--- the bytes are exactly one plain head, by the standard limits
-unfoldable pub is_one_plain_head : List ℕ → Bool
-is_one_plain_head b = is_whole_head (length b) (head_of (standard 1).max_head (standard 1).max_fields b)
-
--- whatever comes in is one plain head
-abbrev pub brings_plain_heads : List Step → Bool
-brings_plain_heads [] = true
-brings_plain_heads (step.On c e b ∷ steps) = is_one_plain_head b && brings_plain_heads steps
-brings_plain_heads (s ∷ steps) = brings_plain_heads steps
-
--- steps of which this holds
-abbrev pub with_plain_heads : List Step → Option (List Step)
-with_plain_heads steps = if brings_plain_heads steps then Some steps else None
-
--- the steps of an input, or none where it is outside the form
-unfoldable pub steps_of : List ℕ → Option (List Step)
-steps_of input = option_and_then with_plain_heads (script_of input)
-
--- one component, which serves every path, under the standard limits
-abbrev pub replayed : List Step → List ℕ
-replayed steps = report (standard 1) (default_rule 0 true) steps
+-- the report of a script
+abbrev pub replayed : Script → List ℕ
+replayed script = report script.limits script.rules script.steps
 
 -- the report of an input
 abbrev pub report_of : List ℕ → Option (List ℕ)
-report_of input = option_map replayed (steps_of input)
+report_of input = option_map replayed (script_of input)
 
 -- the source was read to its end, and the text is the report of all that it had left
 abbrev pub Reports : Option (List ℕ) → Option (List ℕ) → List ℕ → Type 0
@@ -111,8 +83,8 @@ refusal_of fault.NoMemory = refusal.NoMemory
 
 -- why a script that was not read is not reported
 abbrev pub refusal_for : ScriptFault → Refusal
-refusal_for script.Refused = refusal.Script
-refusal_for script.NoMemory = refusal.NoMemory
+refusal_for script_fault.Refused = refusal.Script
+refusal_for script_fault.NoMemory = refusal.NoMemory
 
 -- ---- what a status says of the input and the output
 
@@ -149,6 +121,6 @@ pub record IsInForm (left : Option (List ℕ)) : Type 0 where
 
 -- ---- a law
 
--- the steps of an input are a valid list, read from its newest step
+-- the steps of a script that is read are a valid list, read from its newest step
 abbrev pub ReadStepsAreValid : Type 0
-ReadStepsAreValid = (input : List ℕ) (steps : List Step) → steps_of input ≡ Some steps → IsValid (reverse steps)
+ReadStepsAreValid = (input : List ℕ) (script : Script) → script_of input ≡ Some script → IsValid (reverse script.steps)

@@ -1,36 +1,36 @@
-//! The chart of a request: its accepted calls, in order.
+//! The chart of a request.
 ghost use Rattle.std.specs.Prelude.{◌≡◌};
 
-use cy_event::Call;
+use cy_event::ChartItem;
 use std::marker::Model;
 
-/// The accepted calls of one request, as a list.
+/// The chart of one request, as a list of items.
 #[derive(Debug, Drop)]
 pub struct Chart {
-    calls: Vec<Call>,
+    items: Vec<ChartItem>,
 }
 
 impl Model for Chart {
     ghost use Rattle.std.specs.Prelude.{List};
-    ghost use Rattle.cy_event.specs.declared.steps.Call.{Call};
+    ghost use Rattle.cy_event.specs.declared.table.ChartItem.{ChartItem};
 
-    ghost Value = { List Call };
+    ghost Value = { List ChartItem };
 
-    ghost view = { λ c. c.calls.items };
+    ghost view = { λ c. c.items.items };
 }
 
 impl Chart {
-    /// The chart of these calls. It takes no memory.
-    pub fn of(calls: Vec<Call>) -> Chart
-        ensures { result ≡ calls.items }
+    /// The chart of these items. It takes no memory.
+    pub fn of(items: Vec<ChartItem>) -> Chart
+        ensures { result ≡ items.items }
     {
-        Chart { calls }
+        Chart { items }
     }
 
-    /// The calls, lent.
-    pub fn as_slice(&self) -> &[Call]
+    /// The items, lent.
+    pub fn as_slice(&self) -> &[ChartItem]
         ensures { result.now ≡ self.now }
     {
-        self.calls.as_slice()
+        self.items.as_slice()
     }
 }

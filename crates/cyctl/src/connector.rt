@@ -1,8 +1,9 @@
-//! A connector: it takes one step at a time, whichever it is. It has one connection at most so far.
-ghost use Rattle.std.specs.Prelude.{◌≡◌, ◌≤◌, ℕ, [], List, IfOk, OnOk, Some, None};
-ghost use Rattle.cy_event.specs.declared.limits.TheConstants.{GREATEST_MOMENT};
+//! A connector: it takes one step at a time, whichever it is. It has one connection at most so far, and no step is one
+//! of the clock.
+ghost use Rattle.std.specs.Prelude.{◌≡◌, [], List, IfOk, Some, None, false};
 ghost use Rattle.cy_event.specs.declared.steps.Step.{Step as AnyStep};
 ghost use Rattle.cy_model.specs.Steps.{IsWithinBytes};
+ghost use Rattle.cy_script.specs.Conditions.{is_admit};
 
 use crate::connection::Connection;
 use crate::settings::Settings;
@@ -10,7 +11,7 @@ use cy_event::{Act, Event, Reply, Step};
 use std::alloc::{AllocError, Global};
 
 /// A connection under its number.
-#[derive(Debug, Drop)]
+#[derive(Drop)]
 pub struct Admitted {
     pub number: u64,
     pub connection: Connection,
@@ -24,64 +25,56 @@ impl Admitted {
     fn event(
         &mut self,
         number: u64,
-        at: u64,
         event: Event,
         bytes: &[u8],
         settings: &Settings,
     ) -> Result<Reply, AllocError>
-        ensures { IfOk result (λ r. AnswersAt settings.now at number (on_event event bytes.now) self.old r self.new) }
+        ensures { IfOk result (λ r. AnswersAt settings.now number (on_event event bytes.now) self.old r self.new) }
     {
         if self.number != number {
             return Ok(Reply::NoConn);
         }
-        let reply = self.connection.event(at, event, bytes, settings)?;
-        Ok(reply)
+        self.connection.event(event, bytes, settings)
     }
 
     /// A worker turns to the connection of this number.
-    fn run(&mut self, number: u64, at: u64, settings: &Settings) -> Result<Reply, AllocError>
-        ensures { IfOk result (λ r. AnswersAt settings.now at number on_run self.old r self.new) }
+    fn run(&mut self, number: u64, settings: &Settings) -> Result<Reply, AllocError>
+        ensures { IfOk result (λ r. AnswersAt settings.now number on_run self.old r self.new) }
     {
         if self.number != number {
             return Ok(Reply::NoConn);
         }
-        let reply = self.connection.run(at, settings)?;
-        Ok(reply)
+        self.connection.run(settings)
     }
 
     /// The callback that runs on the connection of this number acts.
     fn act(
         &mut self,
         number: u64,
-        at: u64,
         act: Act,
         bytes: &[u8],
         settings: &Settings,
     ) -> Result<Reply, AllocError>
         requires within { IsWithinBytes act bytes.now }
-        requires moment { at ≤ GREATEST_MOMENT }
-        ensures { IfOk result (λ r. AnswersAt settings.now at number (on_act act bytes.now) self.old r self.new) }
+        ensures { IfOk result (λ r. AnswersAt settings.now number (on_act act bytes.now) self.old r self.new) }
     {
         if self.number != number {
             return Ok(Reply::NoConn);
         }
-        let reply = self.connection.act(at, act, bytes, settings)?;
-        Ok(reply)
+        self.connection.act(act, bytes, settings)
     }
 }
 
-/// The settings, the moment, and the connection that was admitted.
-#[derive(Debug, Drop)]
+/// The settings, and the connection that was admitted.
+#[derive(Drop)]
 pub struct Connector {
     pub settings: Settings,
-    pub moment: u64,
     pub admitted: Option<Admitted>,
 }
 
 impl Connector {
-    ghost use Rattle.cy_event.specs.declared.steps.Reply.TheVariants as reply;
-    ghost use Rattle.cy_model.specs.Entries.{on_act, tick, on_event, on_run};
-    ghost use Rattle.cyctl.specs.Connecting.{Admits, AnswersOwn, CanTake, Ticks, StandsFor, TakesStep};
+    ghost use Rattle.cy_model.specs.Entries.{on_act, on_event, on_run};
+    ghost use Rattle.cyctl.specs.Connecting.{Admits, AnswersOwn, CanTake, StandsFor, TakesStep};
 
     /// A connector to which nothing has happened.
     pub fn new(settings: Settings) -> Connector
@@ -91,35 +84,34 @@ impl Connector {
     {
         Connector {
             settings,
-            moment: 0,
             admitted: None,
         }
     }
 
     /// The socket of a connection tells something.
     fn event(&mut self, number: u64, event: Event, bytes: &[u8]) -> Result<Reply, AllocError>
-        ensures answers { IfOk result (λ r. AnswersOwn self.old.settings self.old.moment number (on_event event bytes.now) self.old.admitted r self.new.admitted) }
+        ensures answers { IfOk result (λ r. AnswersOwn self.old.settings number (on_event event bytes.now) self.old.admitted r self.new.admitted) }
         ensures settings { self.new.settings ≡ self.old.settings }
-        ensures moment { self.new.moment ≡ self.old.moment }
+        ensures nobody { self.old.admitted ≡ None → self.new.admitted ≡ None }
     {
         let Some(mut admitted) = self.admitted.take() else {
             return Ok(Reply::NoConn);
         };
-        let reply = admitted.event(number, self.moment, event, bytes, &self.settings)?;
+        let reply = admitted.event(number, event, bytes, &self.settings)?;
         self.admitted = Some(admitted);
         Ok(reply)
     }
 
     /// A worker turns to a connection.
     fn run(&mut self, number: u64) -> Result<Reply, AllocError>
-        ensures answers { IfOk result (λ r. AnswersOwn self.old.settings self.old.moment number on_run self.old.admitted r self.new.admitted) }
+        ensures answers { IfOk result (λ r. AnswersOwn self.old.settings number on_run self.old.admitted r self.new.admitted) }
         ensures settings { self.new.settings ≡ self.old.settings }
-        ensures moment { self.new.moment ≡ self.old.moment }
+        ensures nobody { self.old.admitted ≡ None → self.new.admitted ≡ None }
     {
         let Some(mut admitted) = self.admitted.take() else {
             return Ok(Reply::NoConn);
         };
-        let reply = admitted.run(number, self.moment, &self.settings)?;
+        let reply = admitted.run(number, &self.settings)?;
         self.admitted = Some(admitted);
         Ok(reply)
     }
@@ -127,61 +119,44 @@ impl Connector {
     /// The callback that runs on a connection acts.
     fn act(&mut self, number: u64, act: Act, bytes: &[u8]) -> Result<Reply, AllocError>
         requires within { IsWithinBytes act bytes.now }
-        requires moment { self.old.moment ≤ GREATEST_MOMENT }
-        ensures answers { IfOk result (λ r. AnswersOwn self.old.settings self.old.moment number (on_act act bytes.now) self.old.admitted r self.new.admitted) }
+        ensures answers { IfOk result (λ r. AnswersOwn self.old.settings number (on_act act bytes.now) self.old.admitted r self.new.admitted) }
         ensures settings { self.new.settings ≡ self.old.settings }
-        ensures moment { self.new.moment ≡ self.old.moment }
+        ensures nobody { self.old.admitted ≡ None → self.new.admitted ≡ None }
     {
         let Some(mut admitted) = self.admitted.take() else {
             return Ok(Reply::NoConn);
         };
-        let reply = admitted.act(number, self.moment, act, bytes, &self.settings)?;
+        let reply = admitted.act(number, act, bytes, &self.settings)?;
         self.admitted = Some(admitted);
         Ok(reply)
     }
 
-    /// The clock stands at a moment.
-    fn tick(&mut self, at: u64) -> Reply
-        ensures reply { result ≡ reply.Done }
-        ensures ticks { Ticks self.old.settings at self.old.admitted self.new.admitted }
-        ensures settings { self.new.settings ≡ self.old.settings }
-        ensures moment { self.new.moment ≡ at }
-    {
-        self.moment = at;
-        let Some(mut admitted) = self.admitted.take() else {
-            return Reply::Done;
-        };
-        admitted.connection.tick(at, &self.settings);
-        self.admitted = Some(admitted);
-        Reply::Done
-    }
-
     /// A connection asks to be admitted, where none was.
-    fn admit(&mut self, alloc: Global, number: u64) -> Reply
+    fn admit(&mut self, alloc: Global, number: u64) -> Result<Reply, AllocError>
         requires none { self.old.admitted ≡ None }
-        ensures admits { Admits self.old.settings self.old.moment number result self.new.admitted }
+        ensures admits { IfOk result (λ r. Admits self.old.settings number r self.new.admitted) }
         ensures settings { self.new.settings ≡ self.old.settings }
-        ensures moment { self.new.moment ≡ self.old.moment }
     {
         if self.settings.limits.max_connections == 0 {
-            return Reply::Full(0);
+            return Ok(Reply::Full(0));
         }
-        let connection = Connection::open(alloc, self.moment, &self.settings);
+        let connection = Connection::open(alloc, &self.settings)?;
         self.admitted = Some(Admitted { number, connection });
-        Reply::Entered
+        Ok(Reply::Entered)
     }
 
     /// One step. Its reply is the definition's, for every list of steps that the connector stands for.
     pub fn step(&mut self, alloc: Global, step: &Step) -> Result<Reply, AllocError>
-        requires moment { self.old.moment ≤ GREATEST_MOMENT }
-        requires step { CanTake step.now self.old.admitted }
+        requires { CanTake step.now self.old.admitted }
         ensures takes { IfOk result (λ r. (w : List AnyStep) → StandsFor w self.old → TakesStep w step.now self.old r self.new) }
         ensures settings { self.new.settings ≡ self.old.settings }
-        ensures moment { self.new.moment ≤ GREATEST_MOMENT }
+
+        // Where nobody was admitted, only an admission changes that.
+        ensures nobody { is_admit step.now ≡ false → self.old.admitted ≡ None → self.new.admitted ≡ None }
     {
         let reply = match step {
-            Step::At(at) => self.tick(*at),
-            Step::Admit(number) => self.admit(alloc, *number),
+            Step::At(_) => unreachable!(),
+            Step::Admit(number) => self.admit(alloc, *number)?,
             Step::On { conn, event, bytes } => self.event(*conn, *event, bytes.as_slice())?,
             Step::Run(conn) => self.run(*conn)?,
             Step::Act { conn, act, bytes } => self.act(*conn, *act, bytes.as_slice())?,

@@ -1,14 +1,12 @@
 //! `cyctl` replays a written list of steps of a connector.
 #![tactic(auto)]
 
-mod answer;
 mod chart;
 mod connection;
 mod connector;
-mod date;
-mod heads;
 mod input;
 mod laws;
+mod live;
 mod output;
 mod report;
 mod run;

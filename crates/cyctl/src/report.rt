@@ -5,7 +5,7 @@ ghost use Rattle.cy_model.specs.Reports.{call_name, cause_name, cause_text, char
 
 use crate::chart::Chart;
 use cy_bytes::quote;
-use cy_event::{Call, CloseCause, Job, Reply, State};
+use cy_event::{Call, ChartItem, CloseCause, Job, Reply, State};
 use std::alloc::{AllocError, Global};
 use std::fmt;
 
@@ -57,12 +57,18 @@ impl fmt::Display for ReplyText {
             Reply::Entered => f.write_str("Entered"),
             Reply::Full(count) => write!(f, "Full {count}"),
             Reply::Taken(count) => write!(f, "Taken {count}"),
+            // No step reads content so far, so none stands beside this reply.
+            Reply::Got(_) => f.write_str("Got \"\""),
+            Reply::GotEnd => f.write_str("GotEnd"),
             Reply::Again => f.write_str("Again"),
             Reply::Begun(Job::Service { part }) => write!(f, "Begun service {part}"),
             Reply::Idle => f.write_str("Idle"),
             Reply::Illegal(state) => write!(f, "Illegal {}", state_name(state)),
             Reply::NotActive => f.write_str("NotActive"),
             Reply::NoConn => f.write_str("NoConn"),
+            Reply::BadValue => f.write_str("BadValue"),
+            Reply::TooMany(count) => write!(f, "TooMany {count}"),
+            Reply::Closed => f.write_str("Closed"),
         }
     }
 }
@@ -137,25 +143,35 @@ fn push_chart_line(
     out: &mut Vec<u8>,
     conn: u64,
     request: usize,
-    calls: &[Call],
+    items: &[ChartItem],
 ) -> Result<(), AllocError>
-    ensures { OnOk result (out.new.items ≡ out.old.items ++ chart_line conn request calls.now) }
+    ensures { OnOk result (out.new.items ≡ out.old.items ++ chart_line conn request items.now) }
 {
     let head = format!(in alloc; "chart {conn} {request}")?;
     out.extend_from_slice(head.as_bytes())?;
-    push_chart_items(out, calls)?;
+    push_chart_items(alloc, out, items)?;
     out.extend_from_slice(b"\n")
 }
 
-/// Appends the name of each call, with a space before it.
-fn push_chart_items(out: &mut Vec<u8>, calls: &[Call]) -> Result<(), AllocError>
-    ensures { OnOk result (out.new.items ≡ out.old.items ++ flat_map chart_item calls.now) }
+/// Appends each item, with a space before it.
+fn push_chart_items(alloc: Global, out: &mut Vec<u8>, items: &[ChartItem]) -> Result<(), AllocError>
+    ensures { OnOk result (out.new.items ≡ out.old.items ++ flat_map chart_item items.now) }
 {
-    for call in calls {
-        out.extend_from_slice(b" ")?;
-        out.extend_from_slice(call_name(*call).as_bytes())?;
+    for item in items {
+        push_chart_item(alloc, out, *item)?;
     }
     Ok(())
+}
+
+/// Appends a call's name or a number of cycles, with a space before it.
+fn push_chart_item(alloc: Global, out: &mut Vec<u8>, item: ChartItem) -> Result<(), AllocError>
+    ensures { OnOk result (out.new.items ≡ out.old.items ++ chart_item item) }
+{
+    let text = match item {
+        ChartItem::One(call) => format!(in alloc; " {}", call_name(call))?,
+        ChartItem::Cycles(count) => format!(in alloc; " Cycles {count}")?,
+    };
+    out.extend_from_slice(text.as_bytes())
 }
 
 fn cause_text(cause: Option<CloseCause>) -> &'static str
@@ -243,9 +259,12 @@ mod tests {
             Reply::Taken(18_446_744_073_709_551_615),
             Reply::Wake,
             Reply::Illegal(State::CompletePending),
+            Reply::BadValue,
+            Reply::TooMany(64),
+            Reply::Closed,
         ];
         let lines =
-            b"1 Done\n2 Entered\n3 Full 8192\n4 Taken 0\n5 Again\n6 Begun service 3\n7 Idle\n8 NotActive\n9 NoConn\n10 Taken 18446744073709551615\n11 Wake\n12 Illegal COMPLETE_PENDING\n";
+            b"1 Done\n2 Entered\n3 Full 8192\n4 Taken 0\n5 Again\n6 Begun service 3\n7 Idle\n8 NotActive\n9 NoConn\n10 Taken 18446744073709551615\n11 Wake\n12 Illegal COMPLETE_PENDING\n13 BadValue\n14 TooMany 64\n15 Closed\n";
         let mut out = Vec::new(rt.alloc());
         push_reply_lines(rt.alloc(), &mut out, &replies)?;
         assert_eq!(rt; out.as_slice(), lines.as_slice());
@@ -255,12 +274,16 @@ mod tests {
     #[test]
     fn writes_a_connection(rt: HostRuntime) -> Result<(), Fail> {
         let alloc = rt.alloc();
-        let first = Vec::from_slice(alloc, &[Call::Start, Call::CompleteOwn, Call::Return])?;
+        let items = [
+            ChartItem::One(Call::Run),
+            ChartItem::Cycles(12),
+            ChartItem::One(Call::Return),
+        ];
         let mut charts = Vec::new(alloc);
-        charts.push(Chart::of(first))?;
+        charts.push(Chart::of(Vec::from_slice(alloc, &items)?))?;
         charts.push(Chart::of(Vec::new(alloc)))?;
         let lines =
-            b"conn 7 InputEnd took 2 of 5\nout \"a\\r\\n\\\"\\x00\"\nchart 7 1 Start CompleteOwn Return\nchart 7 2\n";
+            b"conn 7 InputEnd took 2 of 5\nout \"a\\r\\n\\\"\\x00\"\nchart 7 1 Run Cycles 12 Return\nchart 7 2\n";
         let mut out = Vec::new(alloc);
         let cause = Some(CloseCause::InputEnd);
         push_connection(alloc, &mut out, 7, cause, 2, b"a\r\n\"\x00", &charts)?;

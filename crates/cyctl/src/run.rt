@@ -1,10 +1,10 @@
 //! A run: a connector takes a list of steps.
-ghost use Rattle.std.specs.Prelude.{◌≡◌, ◌≤◌, List, [], ◌∷◌, ◌++◌, IfOk, reverse};
-ghost use Rattle.cy_event.specs.declared.limits.TheConstants.{GREATEST_MOMENT};
+ghost use Rattle.std.specs.Prelude.{◌≡◌, List, ◌∷◌, IfOk, reverse, None, false};
 ghost use Rattle.cy_event.specs.declared.steps.Step.{Step as AnyStep};
 ghost use Rattle.cy_model.specs.Connections.{replies};
-ghost use Rattle.cyctl.specs.Answered.{rules_of};
-ghost use Rattle.cyctl.specs.Connecting.{AdmitFirst, CanAlwaysTakeEach, StandsFor};
+ghost use Rattle.cy_script.specs.Conditions.{is_admit};
+ghost use Rattle.cyctl.specs.Connecting.{CanTake, CanTakeAll, StandsFor};
+ghost use Rattle.cyctl.specs.Running.{RunsTo};
 
 use crate::connector::Connector;
 use crate::settings::Settings;
@@ -12,16 +12,16 @@ use cy_event::{Reply, Step};
 use std::alloc::{AllocError, Global};
 
 /// The replies to all steps, in order, and the connector that took them.
-#[derive(Debug, Drop)]
+#[derive(Drop)]
 pub struct Run {
     pub replies: Vec<Reply>,
     pub connector: Connector,
 }
 
-/// Takes the steps, of which the first alone may admit a connection.
+/// Takes the steps, of which one at most admits a connection.
 pub fn run_steps(alloc: Global, settings: Settings, steps: &[Step]) -> Result<Run, AllocError>
-    requires { AdmitFirst steps.now }
-    ensures replies { IfOk result (λ run. run.replies.items ≡ replies settings.limits (rules_of settings) (reverse steps.now)) }
+    requires { CanTakeAll steps.now }
+    ensures replies { IfOk result (λ run. run.replies.items ≡ replies settings.limits settings.rules (reverse steps.now)) }
     ensures stands { IfOk result (λ run. StandsFor (reverse steps.now) run.connector) }
     ensures settings { IfOk result (λ run. run.connector.settings ≡ settings) }
 {
@@ -29,42 +29,22 @@ pub fn run_steps(alloc: Global, settings: Settings, steps: &[Step]) -> Result<Ru
         replies: Vec::new(alloc),
         connector: Connector::new(settings),
     };
-    let Some((first, rest)) = steps.split_first() else {
-        return Ok(run);
-    };
-    run.take(alloc, first)?;
-    run.take_all(alloc, rest)?;
+    for step in steps {
+        run.take(alloc, step)?;
+    }
     Ok(run)
 }
 
 impl Run {
-    ghost use Rattle.cyctl.specs.Answered.{rules_of};
-    ghost use Rattle.cyctl.specs.Connecting.{CanTake};
-    ghost use Rattle.cyctl.specs.Running.{RunsTo};
-
     /// Takes one more step.
     fn take(&mut self, alloc: Global, step: &Step) -> Result<(), AllocError>
-        requires moment { self.old.connector.moment ≤ GREATEST_MOMENT }
-        requires step { CanTake step.now self.old.connector.admitted }
+        requires { CanTake step.now self.old.connector.admitted }
         ensures runs { IfOk result (λ _. (w : List AnyStep) → RunsTo w self.old → RunsTo (step.now ∷ w) self.new) }
         ensures settings { self.new.connector.settings ≡ self.old.connector.settings }
-        ensures moment { self.new.connector.moment ≤ GREATEST_MOMENT }
+        ensures nobody { is_admit step.now ≡ false → self.old.connector.admitted ≡ None → self.new.connector.admitted ≡ None }
     {
         let reply = self.connector.step(alloc, step)?;
         self.replies.push(reply)?;
-        Ok(())
-    }
-
-    /// Takes steps that admit nobody.
-    fn take_all(&mut self, alloc: Global, steps: &[Step]) -> Result<(), AllocError>
-        requires moment { self.old.connector.moment ≤ GREATEST_MOMENT }
-        requires steps { CanAlwaysTakeEach steps.now }
-        ensures runs { IfOk result (λ _. (w : List AnyStep) → RunsTo w self.old → RunsTo (reverse steps.now ++ w) self.new) }
-        ensures settings { self.new.connector.settings ≡ self.old.connector.settings }
-    {
-        for step in steps {
-            self.take(alloc, step)?;
-        }
         Ok(())
     }
 }

@@ -1,23 +1,22 @@
 //! The program, over any source and any sink.
-ghost use Rattle.std.specs.Prelude.{◌≡◌, ◌≢◌, ◌↔◌, ◌≤◌, ◌<◌, ◌⊎◌, ◌++◌, Some, None, IfOk, IsTrue, MatchResult, OnErr, OnOk, false, true};
+ghost use Rattle.std.specs.Prelude.{◌≡◌, ◌≢◌, ◌↔◌, ◌≤◌, ◌<◌, ◌⊎◌, Some, None, IfOk, IsTrue, OnErr, OnOk};
 ghost use Rattle.std.specs.Io.KnownBytes.{Appends};
 ghost use Rattle.cy_link.specs.Causes.{Rose};
-ghost use Rattle.cyctl.specs.Connecting.{AdmitFirst, admitted_text};
+ghost use Rattle.cy_script.specs.Kept.{IsScript};
+ghost use Rattle.cyctl.specs.Connecting.{TellsConnections};
 ghost use Rattle.cyctl.specs.declared.tool.Refusal.TheVariants.{NoMemory};
 ghost use Rattle.cyctl.specs.Causes.{ReadsAll, WasRead, WritesFront};
-ghost use Rattle.cyctl.specs.Tool.{HasNotRisen, IsInForm, IsOutside, IsReplay, IsReplayStatus, IsTold, Reports, WritesReport, WritesReportFront, Tells, brings_plain_heads, message_of, refusal_for, refusal_of, status_of, is_one_plain_head, no_memory, refused_script, replayed, report_of, source_fault, steps_of, too_large, usage};
+ghost use Rattle.cyctl.specs.Tool.{HasNotRisen, IsInForm, IsOutside, IsReplay, IsReplayStatus, IsTold, Reports, WritesReport, WritesReportFront, Tells, message_of, refusal_for, refusal_of, status_of, no_memory, refused_script, replayed, report_of, source_fault, too_large, usage};
 ghost use Rattle.cyctl.specs.declared.input.TheConstants.{GREATEST_INPUT};
 
 use crate::connector::{Admitted, Connector};
-use crate::heads::{FoundHead, find_head};
 use crate::input::{InputFault, read_all};
 use crate::output::write_all;
 use crate::report::{push_connection, push_reply_lines};
 use crate::run::{Run, run_steps};
-use crate::settings::{DefaultRule, Settings};
-use cy_event::{Limits, Step};
+use crate::settings::Settings;
 use cy_link::{Sink, Source};
-use cy_script::{ScriptFault, read_script};
+use cy_script::{Script, ScriptFault, read_script};
 use std::alloc::{AllocError, Global};
 
 const USAGE: &[u8] = b"usage: cyctl replay | check | gen <n> | burn <n>\n";
@@ -30,35 +29,6 @@ fn is_replay(words: &Vec<String>) -> bool
         [word] => word.as_str() == "replay",
         _ => false,
     }
-}
-
-/// Whether the bytes are exactly one plain head.
-#[tactic(auto, unfolding(crate::specs::Tool::is_one_plain_head))]
-fn is_one_plain_head(bytes: &[u8]) -> bool
-    ensures { result ≡ is_one_plain_head bytes.now }
-{
-    let limits = Limits::standard(1);
-    match find_head(bytes, limits.max_head, limits.max_fields) {
-        FoundHead::Head {
-            length,
-            plain: true,
-        } => length == bytes.len(),
-        _ => false,
-    }
-}
-
-/// Whether whatever comes in is one plain head.
-fn brings_plain_heads(steps: &[Step]) -> bool
-    ensures { result ≡ brings_plain_heads steps.now }
-{
-    for step in steps {
-        if let Step::On { bytes, .. } = step {
-            if !is_one_plain_head(bytes.as_slice()) {
-                return false;
-            }
-        }
-    }
-    true
 }
 
 /// Why no report was made.
@@ -137,7 +107,7 @@ fn push_admitted(
     out: &mut Vec<u8>,
     admitted: Option<Admitted>,
 ) -> Result<(), AllocError>
-    ensures { OnOk result (out.new.items ≡ out.old.items ++ admitted_text admitted) }
+    ensures { OnOk result (TellsConnections admitted out.old.items out.new.items) }
 {
     let Some(Admitted { number, connection }) = admitted else {
         return Ok(());
@@ -147,31 +117,23 @@ fn push_admitted(
         alloc,
         out,
         number,
-        None,
-        0,
+        account.cause,
+        account.took,
         &account.written,
         &account.charts,
     )?;
     Ok(())
 }
 
-/// The report of steps of which the first alone admits a connection.
-#[tactic(auto, using(crate::proofs::Reported::report_is))]
-fn report(alloc: Global, steps: &[Step]) -> Result<Vec<u8>, AllocError>
-    requires { AdmitFirst steps.now }
-    ensures { IfOk result (λ text. text.items ≡ replayed steps.now) }
+/// The report of a script.
+fn report(alloc: Global, script: Script) -> Result<Vec<u8>, AllocError>
+    requires { IsScript script }
+    ensures { IfOk result (λ text. text.items ≡ replayed script) }
 {
-    let settings = Settings {
-        limits: Limits::standard(1),
-        rule: DefaultRule {
-            part: 0,
-            can_async: true,
-        },
-    };
-    let Run { replies, connector } = run_steps(alloc, settings, steps)?;
+    let settings = Settings::new(alloc, script.limits, script.rules.as_slice())?;
+    let Run { replies, connector } = run_steps(alloc, settings, script.steps.as_slice())?;
     let Connector {
         settings: _,
-        moment: _,
         admitted,
     } = connector;
     let mut text = Vec::new(alloc);
@@ -180,29 +142,14 @@ fn report(alloc: Global, steps: &[Step]) -> Result<Vec<u8>, AllocError>
     Ok(text)
 }
 
-/// Refuses steps by which something comes in that isn't one plain head.
-fn in_heads(steps: &[Step]) -> Result<(), Refusal>
-    ensures { MatchResult result (λ _. brings_plain_heads steps.now ≡ true)
-        (λ refusal. (refusal ≡ Refusal.Script) × (brings_plain_heads steps.now ≡ false)) }
-{
-    if brings_plain_heads(steps) {
-        Ok(())
-    } else {
-        Err(Refusal::Script)
-    }
-}
-
 /// The report of an input.
-#[tactic(auto, unfolding(crate::specs::Tool::steps_of))]
 fn report_input(alloc: Global, input: &[u8]) -> Result<Vec<u8>, Refusal>
     ensures report { IfOk result (λ text. report_of input.now ≡ Some text.items) }
     ensures script { result ≡ Err Refusal.Script → report_of input.now ≡ None }
     ensures memory { OnErr result (result ≢ Err Refusal.Script → result ≡ Err Refusal.NoMemory) }
 {
     let script = read_script(alloc, input)?;
-    let steps = script.steps.as_slice();
-    in_heads(steps)?;
-    let text = report(alloc, steps)?;
+    let text = report(alloc, script)?;
     Ok(text)
 }
 
@@ -275,8 +222,8 @@ pub fn tool<S: Source, K: Sink>(
     source: &mut S,
     sink: &mut K,
 ) -> u8
-    // The source was read to its end, and the sink got the report of the script that was read: each reply and all
-    // answer bytes are those that the definitions give to the connection's own steps.
+    // The source was read to its end, and the sink got the report of the script that was read: each reply, all answer
+    // bytes, the cause and the charts are those that the definitions give to the connection's own steps.
     ensures report { result ≡ 0 → WritesReport (S.left source.old) (S.left source.new) (K.held sink.old) (K.held sink.new) }
 
     // Exactly where the words are none of the forms. Then nothing was read.

@@ -2,6 +2,8 @@
 //! answered by a line with the name and a checksum of what was computed.
 #![tactic(auto)]
 
+mod answers;
+mod bodies;
 mod heads;
 mod latch;
 mod map;
@@ -29,6 +31,13 @@ fn run(alloc: Global, part: &str, times: u64) -> Result<Option<u64>> {
         "timers_set" => timers::timers_set(alloc, times)?,
         "timers_set_later" => timers::timers_set_later(alloc, times)?,
         "timers_due" => timers::timers_due(alloc, times)?,
+        "pieces_of_8192" => answers::pieces_of_8192(alloc, times)?,
+        "answers_of_100" => answers::answers_of_100(alloc, times)?,
+        "bodies_of_8192" => bodies::bodies_of_8192(alloc, times)?,
+        "chunks_of_1000" => bodies::chunks_of_1000(alloc, times)?,
+        "chunks_of_1" => bodies::chunks_of_1(alloc, times)?,
+        "scans_of_1000" => bodies::scans_of_1000(alloc, times)?,
+        "scans_of_15999" => bodies::scans_of_15999(alloc, times)?,
         _ => return Ok(None),
     };
     Ok(Some(checksum))

@@ -155,35 +155,172 @@ fn greatest_size(rt: HostRuntime) -> Result<(), Fail> {
     Ok(())
 }
 
-/// A script of the form in which something else than one plain head comes in.
+/// Replays a script with ample pieces.
+fn replayed(alloc: Global, script: &[u8]) -> Result<(u8, Vec<u8>), Fail> {
+    let outside = Outside {
+        reads: (65_536, None),
+        writes: (65_536, None),
+    };
+    play(alloc, &["replay"], script.to_vec(alloc)?, outside)
+}
+
+/// Whole scripts and their reports.
+const ROWS: [(&[u8], &[u8]); 9] = [
+    // Nothing happens.
+    (b"coyote-script 1", b""),
+    // Nobody is admitted.
+    (
+        b"coyote-script 1\nrule / 0 async\nin 1 \"GET / HTTP/1.1\\r\\nHost: a\\r\\n\\r\\n\"\nrun 1\nact 1 write \"hello\"\nreturn 1\n",
+        b"1 NoConn\n2 NoConn\n3 NoConn\n4 NoConn\n",
+    ),
+    // The same, and then a connection is admitted.
+    (
+        b"coyote-script 1\n\n# late\nend 1\nadmit 1\nend 1\n",
+        b"1 NoConn\n2 Entered\n3 Done\nconn 1 InputEnd took 0 of 0\nout \"\"\n",
+    ),
+    // A head in two pieces.
+    (
+        b"coyote-script 1\nrule / 0 async\nadmit 1\nin 1 \"GET / HTTP/1.1\\r\\nHost: a\\r\\n\\r\"\nrun 1\nin 1 \"\\n\"\nrun 1\n",
+        b"1 Entered\n2 Taken 26\n3 Idle\n4 Taken 1\n5 Begun service 0\nconn 1 open took 0 of 0\nout \"\"\nchart 1 1 Run\n",
+    ),
+    // A length and a coding in one head.
+    (
+        b"coyote-script 1\nrule / 0 async\nadmit 1\nin 1 \"POST / HTTP/1.1\\r\\nHost: a\\r\\nContent-Length: 5\\r\\nTransfer-Encoding: chunked\\r\\n\\r\\n\"\nrun 1\n",
+        b"1 Entered\n2 Taken 75\n3 Idle\nconn 1 Refused took 0 of 129\nout \"HTTP/1.1 400 \\r\\nContent-Type: text/plain\\r\\nContent-Length: 10\\r\\nDate: Thu, 01 Jan 1970 00:00:00 GMT\\r\\nConnection: close\\r\\n\\r\\nError 400\\n\"\n",
+    ),
+    // A tunnel.
+    (
+        b"coyote-script 1\nrule / 0 async\nadmit 1\nin 1 \"CONNECT a:1 HTTP/1.1\\r\\nHost: a\\r\\n\\r\\n\"\n",
+        b"1 Entered\n2 Taken 33\nconn 1 Refused took 0 of 129\nout \"HTTP/1.1 501 \\r\\nContent-Type: text/plain\\r\\nContent-Length: 10\\r\\nDate: Thu, 01 Jan 1970 00:00:00 GMT\\r\\nConnection: close\\r\\n\\r\\nError 501\\n\"\n",
+    ),
+    // The last answer says so, and nothing more is read.
+    (
+        b"coyote-script 1\nset maxKeepAliveRequests 1\nrule / 0 async\nadmit 1\nin 1 \"GET / HTTP/1.1\\r\\nHost: a\\r\\n\\r\\n\"\nrun 1\nact 1 write \"hi\"\nreturn 1\nout 1 100\nin 1 \"x\"\n",
+        b"1 Entered\n2 Taken 27\n3 Begun service 0\n4 Taken 2\n5 Done\n6 Taken 94\n7 Closed\nconn 1 LastAnswer took 94 of 94\nout \"HTTP/1.1 200 \\r\\nContent-Length: 2\\r\\nDate: Thu, 01 Jan 1970 00:00:00 GMT\\r\\nConnection: close\\r\\n\\r\\nhi\"\nchart 1 1 Run Return\n",
+    ),
+    // No rule serves the path.
+    (
+        b"coyote-script 1\nrule /x/* 0 sync\nadmit 1\nin 1 \"GET / HTTP/1.1\\r\\nHost: a\\r\\n\\r\\n\"\nrun 1\n",
+        b"1 Entered\n2 Taken 27\n3 Idle\nconn 1 open took 0 of 110\nout \"HTTP/1.1 404 \\r\\nContent-Type: text/plain\\r\\nContent-Length: 10\\r\\nDate: Thu, 01 Jan 1970 00:00:00 GMT\\r\\n\\r\\nError 404\\n\"\nchart 1 1\n",
+    ),
+    // A browser's head.
+    (
+        b"coyote-script 1\nrule / 0 async\nrule /app/* 1 sync\nadmit 1\nin 1 \"GET /app/list?page=2 HTTP/1.1\\r\\nHost: localhost:8080\\r\\nUser-Agent: Mozilla/5.0 (X11; Linux x86_64; rv:128.0) Gecko/20100101 Firefox/128.0\\r\\nAccept: text/html,application/xhtml+xml,application/xml;q=0.9,*/*;q=0.8\\r\\nAccept-Language: en-US,en;q=0.5\\r\\nAccept-Encoding: gzip, deflate, br\\r\\nConnection: keep-alive\\r\\nCookie: theme=dark; id=42\\r\\nUpgrade-Insecure-Requests: 1\\r\\nSec-Fetch-Dest: document\\r\\nSec-Fetch-Mode: navigate\\r\\nSec-Fetch-Site: none\\r\\nSec-Fetch-User: ?1\\r\\nCache-Control: no-cache\\r\\nPragma: no-cache\\r\\n\\r\\n\"\nrun 1\nreturn 1\n",
+        b"1 Entered\n2 Taken 499\n3 Begun service 1\n4 Done\nconn 1 open took 0 of 73\nout \"HTTP/1.1 200 \\r\\nContent-Length: 0\\r\\nDate: Thu, 01 Jan 1970 00:00:00 GMT\\r\\n\\r\\n\"\nchart 1 1 Run Return\n",
+    ),
+];
+
 #[test]
-fn other_heads(rt: HostRuntime) -> Result<(), Fail> {
-    let texts = [
-        "",
-        "GET / HTTP/1.1\\r\\nHost: a\\r\\n",
-        "GET / HTTP/1.1\\r\\nHost: a\\r\\n\\r\\nG",
-        "GET / HTTP/1.1\\r\\nHost: a\\r\\n\\r\\nGET / HTTP/1.1\\r\\nHost: a\\r\\n\\r\\n",
-        "GET / HTTP/1.1\\r\\n\\r\\n",
-        "GET / HTTP/1.0\\r\\nHost: a\\r\\n\\r\\n",
-        "POST / HTTP/1.1\\r\\nHost: a\\r\\n\\r\\n",
-        "GET /b HTTP/1.1\\r\\nHost: a\\r\\n\\r\\n",
-        "GET / HTTP/1.1\\r\\nHost: a\\r\\nconnection: close\\r\\n\\r\\n",
-        "GET / HTTP/1.1\\r\\nHost: a\\r\\nContent-Length: 0\\r\\n\\r\\n",
-    ];
-    for text in texts {
+fn whole_scripts(rt: HostRuntime) -> Result<(), Fail> {
+    for (script, report) in ROWS {
+        let (status, written) = replayed(rt.alloc(), script)?;
+        assert_eq!(rt; status, 0);
+        assert_eq!(rt; written.as_slice(), report);
+    }
+    Ok(())
+}
+
+/// Heads of 8,192 and of 8,193 bytes, which is one more than the greatest.
+#[test]
+fn greatest_head(rt: HostRuntime) -> Result<(), Fail> {
+    for (letters, report) in [
+        (
+            8160,
+            "1 Entered\n2 Taken 8192\n3 Begun service 0\nconn 1 open took 0 of 0\nout \"\"\nchart 1 1 Run\n",
+        ),
+        (
+            8161,
+            "1 Entered\n2 Taken 8193\n3 Idle\nconn 1 Refused took 0 of 129\nout \"HTTP/1.1 400 \\r\\nContent-Type: text/plain\\r\\nContent-Length: 10\\r\\nDate: Thu, 01 Jan 1970 00:00:00 GMT\\r\\nConnection: close\\r\\n\\r\\nError 400\\n\"\n",
+        ),
+    ] {
+        let mut script =
+            b"coyote-script 1\nrule / 0 async\nadmit 1\nin 1 \"GET / HTTP/1.1\\r\\nHost: a\\r\\nX: ".to_vec(
+                rt.alloc(),
+            )?;
+        script.extend_from_slice(&vec![in rt.alloc(); b'a'; letters]?)?;
+        script.extend_from_slice(b"\\r\\n\\r\\n\"\nrun 1\n")?;
+        let (status, written) = replayed(rt.alloc(), &script)?;
+        assert_eq!(rt; status, 0);
+        assert_eq!(rt; written.as_slice(), report.as_bytes());
+    }
+    Ok(())
+}
+
+/// Targets of which each rule serves some, the bytes that their heads have, and the components that serve them.
+#[test]
+fn served_targets(rt: HostRuntime) -> Result<(), Fail> {
+    let five =
+        "rule /a 0 async\nrule /x/* 1 async\nrule /x/y/* 2 async\nrule *.do 3 async\nrule / 4 async";
+    let three = "rule / 0 async\nrule /a/c 1 async\nrule /a/b/ 2 async";
+    for (rules, line, bytes, part) in [
+        (five, "GET /a", 28, 0),
+        (five, "GET /x", 28, 1),
+        (five, "GET /x/q.do", 33, 1),
+        (five, "GET /x/y/z", 32, 2),
+        (five, "GET /q.do", 31, 3),
+        (five, "GET /b", 28, 4),
+        (five, "OPTIONS *", 31, 4),
+        (three, "GET /a%20b;p=1/c?q", 40, 0),
+        (three, "GET /a/./b/../c", 37, 1),
+        (three, "GET //a//b/", 33, 2),
+        (three, "GET http://h:1", 36, 0),
+    ] {
         let script = format!(in rt.alloc();
-            "coyote-script 1\nrule / 0 async\nadmit 1\nin 1 \"{text}\"\nrun 1\nact 1 write \"hello\"\nreturn 1\n"
+            "coyote-script 1\n{rules}\nadmit 1\nin 1 \"{line} HTTP/1.1\\r\\nHost: a\\r\\n\\r\\n\"\nrun 1\n"
         )?;
-        let outside = Outside {
-            reads: (64, None),
-            writes: (64, None),
-        };
-        let (status, written) = play(
-            rt.alloc(),
-            &["replay"],
-            script.as_bytes().to_vec(rt.alloc())?,
-            outside,
+        let report = format!(in rt.alloc();
+            "1 Entered\n2 Taken {bytes}\n3 Begun service {part}\nconn 1 open took 0 of 0\nout \"\"\nchart 1 1 Run\n"
         )?;
+        let (status, written) = replayed(rt.alloc(), script.as_bytes())?;
+        assert_eq!(rt; status, 0);
+        assert_eq!(rt; written.as_slice(), report.as_bytes(), "{line}");
+    }
+    Ok(())
+}
+
+/// Targets that are refused, and the bytes that their heads have.
+#[test]
+fn bad_targets(rt: HostRuntime) -> Result<(), Fail> {
+    for (target, bytes) in [
+        ("/..", 29),
+        ("/%2f", 30),
+        ("/%zz", 30),
+        ("/%00", 30),
+        ("a", 27),
+    ] {
+        let script = format!(in rt.alloc();
+            "coyote-script 1\nrule / 0 async\nadmit 1\nin 1 \"GET {target} HTTP/1.1\\r\\nHost: a\\r\\n\\r\\n\"\nrun 1\n"
+        )?;
+        let report = format!(in rt.alloc();
+            "1 Entered\n2 Taken {bytes}\n3 Idle\nconn 1 Refused took 0 of 129\nout \"HTTP/1.1 400 \\r\\nContent-Type: text/plain\\r\\nContent-Length: 10\\r\\nDate: Thu, 01 Jan 1970 00:00:00 GMT\\r\\nConnection: close\\r\\n\\r\\nError 400\\n\"\n"
+        )?;
+        let (status, written) = replayed(rt.alloc(), script.as_bytes())?;
+        assert_eq!(rt; status, 0);
+        assert_eq!(rt; written.as_slice(), report.as_bytes(), "{target}");
+    }
+    Ok(())
+}
+
+/// Texts outside the form: another first line, a line that says nothing of the form, a rule or a setting behind a
+/// step, a pattern that is none or stands twice, a value out of its range, another connection, a second admission, and
+/// an escape that is none.
+#[test]
+fn other_texts(rt: HostRuntime) -> Result<(), Fail> {
+    for text in [
+        "",
+        "coyote-script 2\n",
+        "coyote-script 1\nadmit\n",
+        "coyote-script 1\nadmit 1\nrule / 0 async\n",
+        "coyote-script 1\nadmit 1\nset maxHeaderCount 9\n",
+        "coyote-script 1\nrule x 0 async\n",
+        "coyote-script 1\nrule / 0 async\nrule / 1 async\n",
+        "coyote-script 1\nset maxHttpHeaderSize 255\n",
+        "coyote-script 1\nset maxHttpHeaderSize 8193\n",
+        "coyote-script 1\nadmit 2\n",
+        "coyote-script 1\nadmit 1\nadmit 1\n",
+        "coyote-script 1\nin 1 \"a\\q\"\n",
+    ] {
+        let (status, written) = replayed(rt.alloc(), text.as_bytes())?;
         assert_eq!(rt; status, 3, "{text}");
         assert_eq!(rt; written.as_slice(), b"refused: script\n".as_slice());
     }

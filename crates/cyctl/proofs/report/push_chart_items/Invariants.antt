@@ -3,5 +3,5 @@ use Rattle.std.specs.List.{flat_map}
 use Rattle.cy_model.specs.Reports.{chart_item}
 use Rattle.cyctl.proofs.report.push_chart_items.Given as goal
 
-abbrev pub invariant-loop-call : goal.invariant-loop-call
-invariant-loop-call l = l.out.items ++ flat_map chart_item (drop l.call-index l.calls) ≡ l.initial.out.items ++ flat_map chart_item l.calls
+abbrev pub invariant-loop-item : goal.invariant-loop-item
+invariant-loop-item l = l.out.items ++ flat_map chart_item (drop l.item-index l.items) ≡ l.initial.out.items ++ flat_map chart_item l.items

@@ -1,27 +1,22 @@
-use Rattle.std.proofs.Common.{List, [], ◌∷◌, reverse, sym, ap, ◌∙◌, subst}
-use Rattle.std.proofs.lemmas.List.{reverse-append}
+use Rattle.std.proofs.Common.{List, reverse, take, sym, ◌∙◌, subst}
 use Rattle.cy_event.specs.declared.steps.Step.{Step}
-use Rattle.cy_model.specs.Connections.{replies}
-use Rattle.cyctl.specs.Answered.{rules_of}
+use Rattle.cyctl.proofs.Runs.{can_take_next, nobody_next, reverse-take_more}
 use Rattle.cyctl.specs.Running.{RunsTo}
-use Rattle.cyctl.specs.declared.settings.Settings.{Settings}
 use Rattle.cyctl.proofs.run.run_steps.Goals as goal
 
--- the run has taken all steps
-whole : (c : goal.In_ok-take_all) → RunsTo (reverse c.args.steps.now) c.take_all.new.self
-whole c =
-    let first = c.in-Some.first.now in
-    let rest = c.in-Some.rest.now in
-    let one = c.in_ok-take.ensures.runs [] (record { replies = c.new.ensures.items; stands = c.new-2.ensures.stands }) in
-    subst (λ (w : List Step). RunsTo w c.take_all.new.self)
-    (sym (ap reverse c.in-Some.ensures.cases.0 ∙ reverse-append (first ∷ []) rest))
-    (c.in_ok-take_all.ensures.runs (first ∷ []) one)
+pub take-requires : goal.take-requires
+take-requires c =
+    can_take_next c.args.steps.now c.loop-step.step-index c.step-item.result c.loop-step.run.connector.admitted
+    c.requires c.loop-step-test.true c.step-item.is c.loop-step.invariant.nobody
 
-pub returns-clause-stands : goal.returns-clause-stands
-returns-clause-stands c = (whole c).stands
-
-pub returns-clause-replies : goal.returns-clause-replies
-returns-clause-replies c =
-    (whole c).replies
-    ∙ ap (λ (s : Settings). replies s.limits (rules_of s) (reverse c.args.steps.now))
-    (c.in_ok-take_all.ensures.settings ∙ c.in_ok-take.ensures.settings ∙ c.new-2.ensures.settings)
+pub loop-step-preserved : goal.loop-step-preserved
+loop-step-preserved c =
+    let steps = c.args.steps.now in
+    let i = c.loop-step.step-index in
+    let before = c.loop-step.invariant in record {
+      runs = subst (λ (w : List Step). RunsTo w c.take.new.self) (sym (reverse-take_more steps i c.step-item.result c.loop-step-test.true c.step-item.is))
+          (c.in_ok-take.ensures.runs (reverse (take i steps)) before.runs);
+      settings = c.take.ensures.settings ∙ before.settings;
+      nobody = nobody_next steps i c.step-item.result c.loop-step.run.connector.admitted c.take.new.self.connector.admitted
+          c.loop-step-test.true c.step-item.is before.nobody c.take.ensures.nobody;
+    }

@@ -1,15 +1,18 @@
-use Rattle.std.proofs.Common.{refl, ap, ◌∙◌}
-use Rattle.cy_model.specs.Entries.{job_reply}
-use Rattle.cyctl.specs.PartChanges.{after_job, job_of}
-use Rattle.cyctl.specs.Parts.{Parts}
-use Rattle.cyctl.proofs.Represented.{answers_as, turn_answers}
+use Rattle.std.proofs.Common.{ℕ, ◌++◌, drop, ap, sym, ◌∙◌, subst}
+use Rattle.cyctl.specs.Answered.{Answers}
+use Rattle.cyctl.specs.Parts.{LiveParts}
+use Rattle.cy_model.specs.Entries.{on_run}
+use Rattle.cyctl.proofs.Keeping.{gone_run, run_keeps}
 use Rattle.cyctl.proofs.connection.Connection.run.Goals as goal
+
+pub returns-then-is_gone : goal.returns-then-is_gone
+returns-then-is_gone c =
+    rw (← c.self.view_is) (λ T k. gone_run c.args.settings.now T _ k (sym (c.is_gone.ensures T k.lives) ∙ c.if-is_gone.true))
 
 pub returns : goal.returns
 returns c =
-    let limits = c.args.settings.now.limits in
-    let rule = c.args.settings.now.rule in
-    λ T s. answers_as limits _ c.args.at T _ _ _ _ _ _ refl
-    (c.in_ok-reply.ensures.reply ∙ ap (λ (q : Parts). job_reply (job_of q)) c.settle.ensures)
-    (c.in_ok-reply.ensures.begun ∙ ap (λ (q : Parts). after_job (job_of q) q) c.settle.ensures)
-    (turn_answers limits rule.part rule.can_async c.args.at T c.args.self.now s)
+    rw (← c.self.view_is) (λ T k.
+    subst (λ (l : LiveParts). Answers c.args.settings.now T on_run c.in_ok-reply.reply (record { live = l; written = c.push_unsent.new.to.items })) (sym c.push_unsent.ensures.same)
+    (run_keeps c.args.settings.now c.in_ok-reply.reply T _ c.run.new.self c.push_unsent.new.to.items k
+    (sym (c.is_gone.ensures T k.lives) ∙ c.if-is_gone.false) c.in_ok-reply.ensures.answers c.in_ok-reply.ensures.keeps
+    (c.in_ok-push_unsent.ensures.pushed ∙ ap (λ (n : ℕ). c.self.inside.written.items ++ drop n c.run.new.self.line.unsent) c.unsent_len-kept.ensures)))

@@ -1,0 +1,5 @@
+use Rattle.cy_model.proofs.Places as shown
+use Rattle.cy_model.proofs.laws.heads_are_at_their_places.Goals as goal
+
+pub returns : goal.returns
+returns c = shown.heads_are_at_their_places

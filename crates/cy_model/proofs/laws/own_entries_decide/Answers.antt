@@ -1,0 +1,5 @@
+use Rattle.cy_model.proofs.Places as shown
+use Rattle.cy_model.proofs.laws.own_entries_decide.Goals as goal
+
+pub returns : goal.returns
+returns c = shown.own_entries_decide

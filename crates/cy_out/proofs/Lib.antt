@@ -1,0 +1,10 @@
+pub mod Pushes
+pub mod ErrorHeads
+pub mod PieceLemmas
+pub mod PieceEnds
+pub mod ContentSent
+pub mod LawLemmas
+pub mod WholeAnswers
+pub mod ChunksWritten
+pub mod ClientReading
+pub mod RoomKept

@@ -1,0 +1,5 @@
+use Rattle.cy_out.proofs.PieceEnds.{pieces_end_at_cuts}
+use Rattle.cy_out.proofs.laws.pieces_end_at_cuts.Goals as goal
+
+pub returns : goal.returns
+returns c = pieces_end_at_cuts

@@ -1,0 +1,4 @@
+pub mod Lines
+pub mod Requests
+mod Openings
+mod AnswerParts

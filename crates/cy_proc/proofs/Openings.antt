@@ -1,0 +1,314 @@
+-- A head that is taken up or refused: the parts that follow stand for the trace that follows.
+use Rattle.std.proofs.Common.{◌≡◌, ◌≤◌, ℕ, ◌+◌, ◌<◌, Bool, true, false, not, ◌&&◌, leb, List, [], ◌∷◌, length, map, Option, Some, None, is_none, refl, sym, ap, ◌∙◌, subst, arith, length-drop, codes, bytes_eq, if◌then◌else◌}
+use Rattle.std.proofs.lemmas.Bool.{and_parts}
+use Rattle.std.proofs.lemmas.List.{append-nil}
+use Rattle.cy_event.specs.declared.limits.Limits.{Limits}
+use Rattle.cy_event.specs.declared.steps.CloseCause.{CloseCause}
+use Rattle.cy_event.specs.declared.steps.CloseCause.TheVariants.{InputEnd, Refused}
+use Rattle.cy_event.specs.Answers.{error_answer as error_answer_of}
+use Rattle.cy_event.specs.Charts.{chart_of}
+use Rattle.cy_event.specs.Framings.{bad_request}
+use Rattle.cy_event.specs.Heads.{Head, Front, awaited, found, malformed, head_of}
+use Rattle.cy_event.specs.Targets.{PathAndQuery, target_of}
+use Rattle.cy_event.specs.RequestHeads.{RequestParts}
+use Rattle.cy_event.proofs.Fronts.{front_length-bounds, head_of-found}
+use Rattle.cy_head.specs.Answers.{answer_to, just_read}
+use Rattle.cy_head.specs.declared.front.Front.TheVariants as answer
+use Rattle.cy_map.specs.declared.rule.Rule.{Rule}
+use Rattle.cy_model.specs.Folds.{begun_count, cause_of, consumed, unread}
+use Rattle.cy_model.specs.Marks.{Mark, began, refused, error_answer, caused, TakenUp, Trace}
+use Rattle.cy_model.specs.Settling.{Due, nothing, refusal, not_found, request, due_by_front, due_by_verdict, due_move, due_of, end_marks_by, front_of, is_awaited, is_last_number, may_begin, begin_bound, rested, taken_up, with_marks, after_move}
+use Rattle.cy_model.specs.Verdicts.{Verdict, turned_away, unserved, served, is_head_method, not_found_status, verdict_of}
+use Rattle.cy_model.proofs.Settlings.{DueTakes, due_takes, may_begin-parts}
+use Rattle.cy_target.specs.Kept.{with_target}
+use Rattle.cy_proc.specs.Judging.{IsVerdict}
+use Rattle.cy_proc.specs.declared.verdict.Judgement.TheVariants as judged
+use Rattle.cy_proc.specs.Lines.{LineParts, Represents}
+use Rattle.cy_proc.specs.LineChanges.{after_begin, after_end_of, after_refusal, after_rest, ends_at_rest, front_at, is_due, causes_left, may_begin_line, work_of}
+use Rattle.cy_proc.specs.ProcessorAnswers.{Serves, ServesAfter, TakesUp, ended_items}
+use Rattle.cy_proc.specs.ProcessorChanges.{due_at, due_of_head, line_with, processor_with, with_request}
+use Rattle.cy_proc.specs.Processors.{IsEndedRequest, IsIdle, ProcessorParts, StandsAt, StandsFor, fresh_processor, request_folds, table_of}
+use Rattle.cy_proc.specs.declared.processor.Stage.TheVariants as stage
+use Rattle.cy_proc.proofs.Lines.{began_stands, over_stands, refused_stands, rest_moment, rest_stands}
+use Rattle.cy_proc.proofs.Requests.{charts_same, ended_serves, over_ends, rested_same, stands_same}
+
+-- ---- what the code does
+
+-- a head that is turned away is refused
+turned_line : (limits : Limits) (number size : ℕ) (head : Head) (l : LineParts) (v : Verdict) (status : ℕ) → IsVerdict v (judged.TurnedAway status) → line_with (due_by_verdict limits 0 number size head v) l ≡ after_refusal status (is_head_method head) l
+turned_line limits number size head l (turned_away s) status is = ap (λ (k : ℕ). after_refusal k (is_head_method head) l) (sym is)
+turned_line limits number size head l (unserved f) status is = absurd is
+turned_line limits number size head l (served rule f) status is = absurd is
+
+pub turned_from : (limits : Limits) (rules : List Rule) (size status : ℕ) (to_head : Bool) (old new : RequestParts) (l k : LineParts) → IsVerdict (verdict_of rules old.head) (judged.TurnedAway status) → new.head ≡ old.head → to_head ≡ bytes_eq new.head.method (codes "HEAD") → k ≡ after_refusal status to_head l → k ≡ line_with (due_of_head limits rules size old.head l) l
+turned_from limits rules size status to_head old new l k is same says refused_line =
+    refused_line
+    ∙ ap (λ (v : Bool). after_refusal status v l) (says ∙ ap is_head_method same)
+    ∙ sym (turned_line limits (l.begun + 1) size old.head l (verdict_of rules old.head) status is)
+
+-- a head that no rule serves begins and ends
+unserved_line : (limits : Limits) (number size : ℕ) (head : Head) (l : LineParts) (v : Verdict) (keep : Bool) → IsVerdict v (judged.Unserved keep) → line_with (due_by_verdict limits 0 number size head v) l ≡ after_end_of (keep && not (is_last_number limits.max_keep_alive number)) head.minor (error_answer_of not_found_status) (after_begin size false l)
+unserved_line limits number size head l (turned_away s) keep is = absurd is
+unserved_line limits number size head l (unserved f) keep is = ap (λ (k : Bool). after_end_of (k && not (is_last_number limits.max_keep_alive number)) head.minor (error_answer_of not_found_status) (after_begin size false l)) (sym is)
+unserved_line limits number size head l (served rule f) keep is = absurd is
+
+-- reading a target changes nothing of the head
+same_head : (o : Option PathAndQuery) (parts : RequestParts) → (with_target o parts).head ≡ parts.head
+same_head None parts = refl
+same_head (Some named) parts = refl
+
+pub unserved_from : (limits : Limits) (rules : List Rule) (size minor : ℕ) (said keep : Bool) (old new : RequestParts) (l begun k : LineParts) → IsVerdict (verdict_of rules old.head) (judged.Unserved said) → new ≡ with_target (target_of old.head.method old.head.target) old → keep ≡ (said && not (is_last_number limits.max_keep_alive (l.begun + 1))) → minor ≡ new.head.minor → begun ≡ after_begin size false l → k ≡ after_end_of keep minor (error_answer_of not_found_status) begun → k ≡ line_with (due_of_head limits rules size old.head l) l
+unserved_from limits rules size minor said keep old new l begun k is same kept numbered begin finished =
+    finished
+    ∙ ap (λ (v : Bool). after_end_of v minor (error_answer_of not_found_status) begun) kept
+    ∙ ap (λ (n : ℕ). after_end_of (said && not (is_last_number limits.max_keep_alive (l.begun + 1))) n (error_answer_of not_found_status) begun)
+    (numbered ∙ ap (λ (r : RequestParts). r.head.minor) same ∙ ap (λ (h : Head). h.minor) (same_head (target_of old.head.method old.head.target) old))
+    ∙ ap (after_end_of (said && not (is_last_number limits.max_keep_alive (l.begun + 1))) old.head.minor (error_answer_of not_found_status)) begin
+    ∙ sym (unserved_line limits (l.begun + 1) size old.head l (verdict_of rules old.head) said is)
+
+-- how long a head is that is found
+pub found_bounds : (max_head max_fields : ℕ) (b : List ℕ) (n : ℕ) → answer_to (head_of max_head max_fields b) ≡ answer.Head n → (1 ≤ n) × (n ≤ length b)
+found_bounds max_head max_fields b n e =
+    elim (head_of max_head max_fields b) as (λ f. head_of max_head max_fields b ≡ f → answer_to f ≡ answer.Head n → (1 ≤ n) × (n ≤ length b)) [
+      | awaited ↦ λ at is. cc
+      | malformed ↦ λ at is. cc
+      | found size h ↦ λ at is.
+          let same : size ≡ n = cc in
+          subst (λ (k : ℕ). (1 ≤ k) × (k ≤ length b)) same (front_length-bounds b size (head_of-found max_head max_fields b size h at))
+    ] refl e
+
+-- a bad front is refused
+pub bad_line : (limits : Limits) (rules : List Rule) (number : ℕ) (f : Front) (l : LineParts) → answer_to f ≡ answer.Bad → line_with (due_by_front limits rules 0 number f) l ≡ after_refusal bad_request false l
+bad_line limits rules number awaited l e = cc
+bad_line limits rules number malformed l e = refl
+bad_line limits rules number (found n h) l e = cc
+
+-- ---- what is due stands for a place
+
+-- the same, for a head at this place
+at_place : ℕ → Due → Due
+at_place place nothing = nothing
+at_place place (refusal status to_head) = refusal status to_head
+at_place place (not_found r) = not_found (record r { place = place })
+at_place place (request r) = request (record r { place = place })
+
+placed : (limits : Limits) (rules : List Rule) (place number : ℕ) (f : Front) → due_by_front limits rules place number f ≡ at_place place (due_by_front limits rules 0 number f)
+unfolding at_place
+placed limits rules place number awaited = refl
+placed limits rules place number malformed = refl
+placed limits rules place number (found n h) =
+    elim (verdict_of rules h) as (λ v. due_by_verdict limits place number n h v ≡ at_place place (due_by_verdict limits 0 number n h v)) [
+      | turned_away status ↦ refl
+      | unserved f ↦ refl
+      | served rule f ↦ refl
+    ]
+
+-- nothing is due only while a head is awaited
+not_nothing : (limits : Limits) (rules : List Rule) (number : ℕ) (f : Front) → due_by_front limits rules 0 number f ≡ nothing → is_awaited f ≡ true
+not_nothing limits rules number awaited e = refl
+not_nothing limits rules number malformed e = cc
+not_nothing limits rules number (found n h) e =
+    elim (verdict_of rules h) as (λ v. due_by_verdict limits 0 number n h v ≡ nothing → is_awaited (found n h) ≡ true) [
+      | turned_away status ↦ λ d. cc
+      | unserved f ↦ λ d. cc
+      | served rule f ↦ λ d. cc
+    ] e
+
+-- ---- what is taken up
+
+-- the marks of what was due were made, and line and processor stand for what follows
+record Taken (limits : Limits) (T : Trace) (d : Due) (l k : LineParts) (p : ProcessorParts) : Type 0 where
+  marks : List Mark
+  moved : due_move d ≡ Some marks
+  follows : ServesAfter T (rested limits l.moment (with_marks l.moment marks T)) k p
+
+-- the head of a table
+head_minor : (h : Head) → h.minor ≡ (table_of h).head.minor
+head_minor h = sym (ap (λ (k : Head). k.minor) (same_head (target_of h.method h.target) (just_read h)))
+
+refusal_taken : (limits : Limits) (T : Trace) (status : ℕ) (to_head : Bool) (l : LineParts) → IsIdle (request_folds T) → cause_of T ≡ None → Represents T l → Taken limits T (refusal status to_head) l (after_rest limits (after_refusal status to_head l)) (fresh_processor limits)
+refusal_taken limits T status to_head l idle none s =
+    let m = l.moment in
+    let R : Trace = (m, caused Refused) ∷ (m, refused status to_head) ∷ T in
+    let same = rested_same limits m R in
+    record {
+      marks = refused status to_head ∷ caused Refused ∷ [];
+      moved = refl;
+      follows = record {
+        serves = record {
+          line = rest_stands limits m R (after_refusal status to_head l) (refused_stands status to_head T l none s);
+          processor = stands_same R (rested limits m R) (fresh_processor limits) same (idle, refl);
+        };
+        charts = charts_same T (rested limits m R) (fresh_processor limits) (record { folds = same.folds; charts = same.charts }) refl;
+      };
+    }
+
+-- how long the head of a request is
+size_within : (limits : Limits) (T : Trace) (r : TakenUp) → front_of limits T ≡ found r.size r.head → r.size ≤ length (unread T)
+size_within limits T r front = (front_length-bounds (unread T) r.size (head_of-found limits.max_head limits.max_fields (unread T) r.size r.head front)).1
+
+request_taken : (limits : Limits) (T : Trace) (r : TakenUp) (l : LineParts) → r.place ≡ consumed T → front_of limits T ≡ found r.size r.head → Represents T l → Taken limits T (request r) l (after_rest limits (after_begin r.size r.go_on l)) (with_request stage.Owed r (fresh_processor limits))
+request_taken limits T r l place front s =
+    let m = l.moment in
+    let R : Trace = (m, began r) ∷ T in
+    let q : ProcessorParts = with_request stage.Owed r (fresh_processor limits) in
+    let same = rested_same limits m R in
+    let stands : StandsFor R q = record {
+      request = r;
+      keeps = record { table = refl; can_async = refl; progress = refl };
+      same = ap (λ (n : ℕ). record (request_folds R) { minor = n }) (head_minor r.head);
+    } in
+    record {
+      marks = began r ∷ [];
+      moved = refl;
+      follows = record {
+        serves = record {
+          line = rest_stands limits m R (after_begin r.size r.go_on l) (began_stands r T l place (size_within limits T r front) s);
+          processor = stands_same R (rested limits m R) q same stands;
+        };
+        charts = ap (map chart_of) same.charts ∙ sym (append-nil (ended_items T));
+      };
+    }
+
+error_mark : (m status : ℕ) (T : Trace) (l : LineParts) → Represents T l → Represents ((m, error_answer status) ∷ T) l
+error_mark m status T l s = record {
+  same = s.same;
+  sound = record { consumed_came = s.sound.consumed_came; took_written = s.sound.took_written; whole = s.sound.whole };
+}
+
+not_found_taken : (limits : Limits) (T : Trace) (r : TakenUp) (l : LineParts) → r.place ≡ consumed T → front_of limits T ≡ found r.size r.head → cause_of T ≡ None → Represents T l → Taken limits T (not_found r) l (after_rest limits (after_end_of r.keep r.head.minor (error_answer_of not_found_status) (after_begin r.size r.go_on l))) (with_request stage.Over r (fresh_processor limits))
+not_found_taken limits T r l place front none s =
+    let m = l.moment in
+    let S : Trace = (m, error_answer not_found_status) ∷ (m, began r) ∷ T in
+    let R : Trace = with_marks m (end_marks_by r.keep None) S in
+    let q : ProcessorParts = with_request stage.Over r (fresh_processor limits) in
+    let k : LineParts = after_begin r.size r.go_on l in
+    let begun : Represents S k = error_mark m not_found_status ((m, began r) ∷ T) k (began_stands r T l place (size_within limits T r front) s) in
+    let line : Represents R (after_end_of r.keep r.head.minor (error_answer_of not_found_status) k) =
+    subst (λ (c : Option CloseCause). Represents (with_marks m (end_marks_by r.keep c) S) (after_end_of r.keep r.head.minor (error_answer_of not_found_status) k)) none
+    (over_stands S k begun) in
+    let ends = over_ends m r.keep None S in
+    let stands : IsEndedRequest (request_folds R) q = record {
+      request = r;
+      calls = [];
+      was_served = false;
+      answer = error_answer_of not_found_status;
+      keeps = record { table = refl; can_async = refl; progress = refl };
+      same = ends.folds ∙ ap (λ (n : ℕ). record (request_folds S) { is_open = false; minor = n }) (head_minor r.head);
+    } in
+    record {
+      marks = began r ∷ error_answer not_found_status ∷ end_marks_by r.keep None;
+      moved = refl;
+      follows = ended_serves limits m T R (after_end_of r.keep r.head.minor (error_answer_of not_found_status) k) q [] refl stands refl ends.charts line;
+    }
+
+-- whatever is due, but for nothing
+due_taken : (limits : Limits) (T : Trace) (d : Due) (l : LineParts) → (d ≡ nothing → ⊥) → DueTakes (consumed T) (front_of limits T) (at_place (consumed T) d) → IsIdle (request_folds T) → cause_of T ≡ None → Represents T l → Taken limits T (at_place (consumed T) d) l (after_rest limits (line_with d l)) (processor_with d (fresh_processor limits))
+unfolding DueTakes at_place
+due_taken limits T nothing l some takes closed none s = absurd (some refl)
+due_taken limits T (refusal status to_head) l some takes closed none s = refusal_taken limits T status to_head l closed none s
+due_taken limits T (not_found r) l some takes closed none s = not_found_taken limits T (record r { place = consumed T }) l refl takes.0 none s
+due_taken limits T (request r) l some takes closed none s = request_taken limits T (record r { place = consumed T }) l refl takes.0 s
+
+not_both : (v : Bool) → not v ≡ true → v ≡ true → ⊥
+not_both true e f = cc
+not_both false e f = cc
+
+pub same_limits : (d : Due) (p : ProcessorParts) → (processor_with d p).limits ≡ p.limits
+same_limits nothing p = refl
+same_limits (refusal status to_head) p = refl
+same_limits (not_found r) p = refl
+same_limits (request r) p = refl
+
+same_moment : (d : Due) (l : LineParts) → (line_with d l).moment ≡ l.moment
+same_moment nothing l = refl
+same_moment (refusal status to_head) l = refl
+same_moment (not_found r) l = refl
+same_moment (request r) l = refl
+
+pub opened_moment : (limits : Limits) (rules : List Rule) (l taken new : LineParts) → taken ≡ line_with (due_at limits rules l) l → new ≡ after_rest limits taken → new.moment ≡ l.moment
+opened_moment limits rules l taken new t r =
+    ap (λ (k : LineParts). k.moment) r ∙ rest_moment limits taken ∙ ap (λ (k : LineParts). k.moment) t ∙ same_moment (due_at limits rules l) l
+
+pub open_takes : (limits : Limits) (rules : List Rule) (T : Trace) (l taken new : LineParts) (p q : ProcessorParts) → p ≡ fresh_processor limits → is_due limits l ≡ true → Serves T l p → taken ≡ line_with (due_at limits rules l) l → q ≡ processor_with (due_at limits rules l) p → new ≡ after_rest limits taken → TakesUp rules T new q
+open_takes limits rules T l taken new p q free due s begun held rests =
+    let d = due_by_front limits rules 0 (begun_count T + 1) (front_of limits T) in
+    let place = consumed T in
+    let at_trace : due_at limits rules l ≡ d = ap (λ (k : LineParts). due_at limits rules k) s.line.same in
+    let due_trace : (may_begin T && not (is_awaited (front_of limits T))) ≡ true = ap (λ (k : LineParts). is_due limits k) (sym s.line.same) ∙ due in
+    let tests = and_parts (may_begin T) (not (is_awaited (front_of limits T))) due_trace in
+    let free_now = may_begin-parts T tests.0 in
+    let idle : IsIdle (request_folds T) = (subst (λ (k : ProcessorParts). StandsAt k.stage (request_folds T) k) free s.processor).0 in
+    let here : due_of limits rules T ≡ at_place place d = placed limits rules place (begun_count T + 1) (front_of limits T) in
+    let takes = subst (DueTakes place (front_of limits T)) here (due_takes limits rules place (begun_count T + 1) (front_of limits T)) in
+    let w = due_taken limits T d l (λ e. not_both (is_awaited (front_of limits T)) tests.1 (not_nothing limits rules (begun_count T + 1) (front_of limits T) e)) takes idle free_now.1 s.line in
+    let line : new ≡ after_rest limits (line_with d l) = rests ∙ ap (after_rest limits) (begun ∙ ap (λ (x : Due). line_with x l) at_trace) in
+    let processor : q ≡ processor_with d (fresh_processor limits) = held ∙ ap (λ (x : Due). processor_with x p) at_trace ∙ ap (processor_with d) free in
+    let same : q.limits ≡ limits = ap (λ (x : ProcessorParts). x.limits) processor ∙ same_limits d (fresh_processor limits) in
+    let m : new.moment ≡ l.moment = opened_moment limits rules l taken new begun rests in
+    let moved : taken_up limits rules l.moment T ≡ Some (with_marks l.moment w.marks T) =
+    ap (λ (v : Bool). after_move l.moment T (if v then due_move (due_of limits rules T) else None)) tests.0
+    ∙ ap (after_move l.moment T) (ap due_move here ∙ w.moved) in
+    let serves : ServesAfter T (rested limits l.moment (with_marks l.moment w.marks T)) new q =
+    subst (λ (k : LineParts). ServesAfter T (rested limits l.moment (with_marks l.moment w.marks T)) k q) (sym line)
+    (subst (λ (x : ProcessorParts). ServesAfter T (rested limits l.moment (with_marks l.moment w.marks T)) (after_rest limits (line_with d l)) x) (sym processor) w.follows) in
+    record {
+      trace = with_marks l.moment w.marks T;
+      taken = ap (λ (k : Limits). taken_up k rules new.moment T) same ∙ ap (λ (t : ℕ). taken_up limits rules t T) m ∙ moved;
+      after = subst (λ (k : Limits). ServesAfter T (rested k new.moment (with_marks l.moment w.marks T)) new q) (sym same)
+          (subst (λ (t : ℕ). ServesAfter T (rested limits t (with_marks l.moment w.marks T)) new q) (sym m) serves);
+    }
+
+-- ---- each head makes the work less
+
+work_after_rest : (limits : Limits) (l : LineParts) → work_of (after_rest limits l) ≤ work_of l
+work_after_rest limits l =
+    elim (ends_at_rest limits l) as (λ v. work_of (if v then record l { cause = Some InputEnd } else l) ≤ work_of l) [ true ↦ omega arith | false ↦ omega arith ]
+
+-- a head that is found has a byte at least, and stands in what waits
+FindsHead : Due → LineParts → Type 0
+FindsHead nothing l = ⊥
+FindsHead (refusal status to_head) l = Unit {0}
+FindsHead (not_found r) l = (1 ≤ r.size) × (r.size ≤ length l.unread)
+FindsHead (request r) l = (1 ≤ r.size) × (r.size ≤ length l.unread)
+
+cause_count : (c : Option CloseCause) → causes_left c ≤ 1
+cause_count None = omega arith
+cause_count (Some k) = omega arith
+
+less_work : (d : Due) (l : LineParts) → l.cause ≡ None → FindsHead d l → work_of (line_with d l) < work_of l
+unfolding FindsHead
+less_work nothing l none finds = absurd finds
+less_work (refusal status to_head) l none finds = omega (arith, ap causes_left none)
+less_work (not_found r) l none finds =
+    omega (arith, finds.0, finds.1, length-drop r.size l.unread, ap causes_left none, cause_count (line_with (not_found r) l).cause)
+less_work (request r) l none finds =
+    omega (arith, finds.0, finds.1, length-drop r.size l.unread, ap causes_left none)
+
+finds_head : (limits : Limits) (rules : List Rule) (number : ℕ) (l : LineParts) (f : Front) → front_at limits l ≡ f → is_awaited f ≡ false → FindsHead (due_by_front limits rules 0 number f) l
+unfolding FindsHead
+finds_head limits rules number l awaited at some = cc
+finds_head limits rules number l malformed at some = tt
+finds_head limits rules number l (found n h) at some =
+    let bounds = front_length-bounds l.unread n (head_of-found limits.max_head limits.max_fields l.unread n h at) in
+    elim (verdict_of rules h) as (λ v. FindsHead (due_by_verdict limits 0 number n h v) l) [
+      | turned_away status ↦ tt
+      | unserved f ↦ bounds
+      | served rule f ↦ bounds
+    ]
+
+not_true : (v : Bool) → not v ≡ true → v ≡ false
+not_true true e = cc
+not_true false e = refl
+
+no_cause : (c : Option CloseCause) → is_none c ≡ true → c ≡ None
+no_cause None e = refl
+no_cause (Some k) e = cc
+
+pub opened_less : (limits : Limits) (rules : List Rule) (l taken new : LineParts) → is_due limits l ≡ true → taken ≡ line_with (due_at limits rules l) l → new ≡ after_rest limits taken → work_of new < work_of l
+opened_less limits rules l taken new due begun rests =
+    let tests = and_parts (may_begin_line l) (not (is_awaited (front_at limits l))) due in
+    let may = and_parts (not l.is_open) (is_none l.cause && leb (length l.unsent) begin_bound) tests.0 in
+    let none = no_cause l.cause (and_parts (is_none l.cause) (leb (length l.unsent) begin_bound) may.1).0 in
+    let less = less_work (due_at limits rules l) l none (finds_head limits rules (l.begun + 1) l (front_at limits l) refl (not_true (is_awaited (front_at limits l)) tests.1)) in
+    omega (arith, less, work_after_rest limits taken, ap work_of rests, ap work_of begun)

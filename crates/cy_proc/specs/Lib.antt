@@ -1,0 +1,9 @@
+pub mod Lines
+pub mod LineChanges
+pub mod LineAnswers
+pub mod AnswerBytes
+pub mod Judging
+pub mod Processors
+pub mod ProcessorChanges
+pub mod ProcessorAnswers
+pub mod Lending

@@ -1,0 +1,49 @@
+-- What is kept of a connection outside of its request, and which traces that stands for.
+use Rattle.std.specs.Prelude.{◌≡◌, ◌≤◌, ℕ, ◌+◌, Bool, false, List, Option, length}
+use Rattle.cy_event.specs.declared.steps.CloseCause.{CloseCause}
+use Rattle.cy_event.specs.Answers.{continue_text}
+use Rattle.cy_model.specs.Folds.{begun_count, bytes_of, cause_of, consumed, has_ended, is_broken, is_open, output, took, unread, unsent}
+use Rattle.cy_model.specs.Marks.{Trace}
+use Rattle.cy_model.specs.Settling.{begin_bound}
+
+pub record LineParts : Type 0 where
+  -- the bytes that wait, how many came in all, and how many requests were begun
+  pub unread : List ℕ
+  pub came : ℕ
+  pub begun : ℕ
+  -- what waits for the socket
+  pub unsent : List ℕ
+  -- whether a request is open, why the connection closes, whether its input has ended
+  pub is_open : Bool
+  pub cause : Option CloseCause
+  pub has_ended : Bool
+  -- the moment of the last entry, which no mark is later than
+  pub moment : ℕ
+
+-- the parts that a trace leaves at a moment
+abbrev pub line_parts : ℕ → Trace → LineParts
+line_parts moment T = record {
+  unread = unread T;
+  came = length (bytes_of T);
+  begun = begun_count T;
+  unsent = unsent T;
+  is_open = is_open T;
+  cause = cause_of T;
+  has_ended = has_ended T;
+  moment = moment;
+}
+
+-- as many bytes may wait for the socket while a request is open: those that waited as it began, and `100 Continue`
+abbrev pub open_bound : ℕ
+open_bound = begin_bound + length continue_text
+
+-- no request took more bytes than came and the socket no more than was written; nothing breaks so far
+pub record IsSound (T : Trace) : Type 0 where
+  pub consumed_came : consumed T ≤ length (bytes_of T)
+  pub took_written : took T ≤ length (output T)
+  pub whole : is_broken T ≡ false
+
+-- the parts stand for the trace
+pub record Represents (T : Trace) (l : LineParts) : Type 0 where
+  pub same : l ≡ line_parts l.moment T
+  pub sound : IsSound T

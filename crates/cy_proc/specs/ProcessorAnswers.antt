@@ -1,0 +1,60 @@
+-- What it means that a processor answered rightly, together with the line of its connection.
+use Rattle.std.specs.Prelude.{◌≡◌, ℕ, List, ◌++◌, map, Some}
+use Rattle.cy_event.specs.declared.steps.Act.{Act}
+use Rattle.cy_event.specs.declared.steps.Event.{Event}
+use Rattle.cy_event.specs.declared.steps.Reply.{Reply}
+use Rattle.cy_event.specs.declared.table.ChartItem.{ChartItem}
+use Rattle.cy_event.specs.Charts.{chart_of}
+use Rattle.cy_map.specs.declared.rule.Rule.{Rule}
+use Rattle.cy_model.specs.Entries.{callback_reply, job_reply, owed_after, reply_to_event, rested_callback, rested_event, rested_turn}
+use Rattle.cy_model.specs.Folds.{ended_charts}
+use Rattle.cy_model.specs.Marks.{Trace}
+use Rattle.cy_model.specs.Settling.{rested, taken_up}
+use Rattle.cy_proc.specs.Lines.{LineParts, Represents}
+use Rattle.cy_proc.specs.Processors.{ProcessorParts, StandsFor, over_charts}
+
+-- line and processor stand for one trace
+pub record Serves (T : Trace) (l : LineParts) (p : ProcessorParts) : Type 0 where
+  pub line : Represents T l
+  pub processor : StandsFor T p
+
+-- the charts of the ended requests
+abbrev pub ended_items : Trace → List (List ChartItem)
+ended_items T = map chart_of (ended_charts T)
+
+-- line and processor stand for the later of two traces; if a request has ended in between, it is this processor's
+pub record ServesAfter (T R : Trace) (l : LineParts) (p : ProcessorParts) : Type 0 where
+  pub serves : Serves R l p
+  pub charts : ended_items R ≡ ended_items T ++ over_charts p
+
+-- the reply is the wanted one, and line and processor stand for the trace that follows
+pub record Answers (T : Trace) (wanted : Reply) (R : Trace) (r : Reply) (l : LineParts) (p : ProcessorParts) : Type 0 where
+  pub reply : r ≡ wanted
+  pub after : ServesAfter T R l p
+
+-- ---- for each trace that line and processor stood for
+
+-- a due head was taken up or refused, and the connection rested
+pub record TakesUp (rules : List Rule) (T : Trace) (l : LineParts) (p : ProcessorParts) : Type 0 where
+  pub trace : Trace
+  pub taken : taken_up p.limits rules l.moment T ≡ Some trace
+  pub after : ServesAfter T (rested p.limits l.moment trace) l p
+
+abbrev pub TakesUpEach : List Rule → LineParts → ProcessorParts → LineParts → ProcessorParts → Type 0
+TakesUpEach rules line processor l p = (T : Trace) → Serves T line processor → TakesUp rules T l p
+
+-- the socket told something
+abbrev pub AnswersEachEvent : Event → List ℕ → LineParts → ProcessorParts → Reply → LineParts → ProcessorParts → Type 0
+AnswersEachEvent e b line processor r l p =
+    (T : Trace) → Serves T line processor → Answers T (reply_to_event T e b) (rested_event p.limits l.moment T e b) r l p
+
+-- a worker turned to the request
+abbrev pub AnswersEachTurn : LineParts → ProcessorParts → Reply → LineParts → ProcessorParts → Type 0
+AnswersEachTurn line processor r l p =
+    (T : Trace) → Serves T line processor
+    → Answers T (job_reply (owed_after T (rested p.limits l.moment T))) (rested_turn p.limits l.moment T) r l p
+
+-- the callback acted
+abbrev pub AnswersEachAct : Act → List ℕ → LineParts → ProcessorParts → Reply → LineParts → ProcessorParts → Type 0
+AnswersEachAct a b line processor r l p =
+    (T : Trace) → Serves T line processor → Answers T (callback_reply T a) (rested_callback p.limits l.moment T a b) r l p

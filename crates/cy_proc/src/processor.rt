@@ -1,0 +1,334 @@
+//! One request's life: the head that was taken up, the callback that runs, and the answer.
+ghost use Rattle.std.specs.Prelude.{◌≡◌, ◌≤◌, ◌<◌, ℕ, length, slice_get, max, false, true, Some, IfOk};
+ghost use Rattle.cy_event.specs.declared.limits.TheConstants.{GREATEST_MOMENT};
+ghost use Rattle.cy_event.specs.declared.head.TheConstants.{HEAD_ROOM, FIELD_ROOM};
+ghost use Rattle.cy_head.specs.Answers.{just_read};
+ghost use Rattle.cy_model.specs.Entries.{job_reply};
+ghost use Rattle.cy_model.specs.Jobs.{next_job};
+ghost use Rattle.cy_model.specs.Marks.{Trace};
+ghost use Rattle.cy_model.specs.Settling.{begin_bound};
+ghost use Rattle.cy_model.specs.Steps.{IsWithinBytes};
+ghost use Rattle.cy_proc.specs.LineChanges.{is_due, work_of};
+ghost use Rattle.cy_proc.specs.ProcessorAnswers.{AnswersEachAct, AnswersEachEvent, AnswersEachTurn, TakesUpEach};
+ghost use Rattle.cy_proc.specs.ProcessorChanges.{after_job, after_return, after_write, due_at, due_of_head, job_at, line_returned, line_with, processor_with, write_reply};
+ghost use Rattle.cy_proc.specs.Processors.{IsIdle, StandsFor, fresh_processor, is_open_at, is_over_at, request_folds};
+
+use crate::line::Line;
+use crate::verdict::{Judgement, judge};
+use cy_event::{
+    Act, Call, ChartItem, Event, Job, Limits, NoMemory, Reply, RequestHead, extend_in_room,
+};
+use cy_head::Front;
+use cy_map::Mapper;
+use cy_states::Machine;
+use std::alloc::Global;
+use std::marker::Model;
+
+/// How far a processor's request has come.
+#[derive(Clone, Copy, Debug, PartialEq, Eq)]
+pub enum Stage {
+    /// There is none.
+    Free,
+    /// Its service is owed.
+    Owed,
+    /// Its service runs.
+    Serving,
+    /// It has ended.
+    Over,
+}
+
+/// Bytes of content that wait for the head at most.
+const CONTENT_BUFFER: usize = 8192;
+
+const BAD_REQUEST: u16 = 400;
+
+const NOT_FOUND: u16 = 404;
+
+/// The life of one request. All memory is taken as a processor is made; `clear` makes it fit for the next request.
+#[derive(Drop)]
+pub struct Processor {
+    limits: Limits,
+    stage: Stage,
+    table: RequestHead,
+    machine: Machine,
+    content: Vec<u8>,
+    part: u32,
+    can_async: bool,
+    keep: bool,
+}
+
+impl Model for Processor {
+    ghost use Rattle.std.specs.Prelude.{◌≡◌, ◌≤◌, vec_len, vec_capacity};
+    ghost use Rattle.cy_event.specs.declared.head.TheConstants.{HEAD_ROOM, FIELD_ROOM};
+    ghost use Rattle.cy_proc.specs.Processors.{IsReady, ProcessorParts};
+    ghost use Rattle.cy_proc.specs.declared.processor.TheConstants.{CONTENT_BUFFER};
+
+    ghost Value = { ProcessorParts };
+
+    ghost view = { λ p. record {
+      limits = p.limits;
+      stage = p.stage;
+      table = p.table;
+      progress = p.machine;
+      content = p.content.items;
+      part = p.part;
+      can_async = p.can_async;
+      keep = p.keep;
+    } };
+
+    ghost invariant = { λ p. (vec_len p.content ≤ CONTENT_BUFFER) × (CONTENT_BUFFER ≤ vec_capacity p.content)
+        × (p.limits.max_head ≤ HEAD_ROOM) × (p.limits.max_fields ≤ FIELD_ROOM) × IsReady p.stage p.machine };
+}
+
+impl Processor {
+    /// A processor without a request, for connections of these limits.
+    ///
+    /// # Errors
+    ///
+    /// `NoMemory` where memory ran out.
+    pub fn new(alloc: Global, limits: &Limits) -> Result<Processor, NoMemory>
+        requires head_room { limits.now.max_head ≤ HEAD_ROOM }
+        requires field_room { limits.now.max_fields ≤ FIELD_ROOM }
+        ensures fresh { IfOk result (λ processor. processor ≡ fresh_processor limits.now) }
+
+        // It stands for each trace in which no request is open.
+        ensures stands { IfOk result (λ processor. (T : Trace) → IsIdle (request_folds T) → StandsFor T processor) }
+    {
+        Ok(Processor {
+            limits: *limits,
+            stage: Stage::Free,
+            table: RequestHead::new(alloc, limits)?,
+            machine: Machine::new(alloc)?,
+            content: Vec::with_capacity(alloc, CONTENT_BUFFER)?,
+            part: 0,
+            can_async: false,
+            keep: false,
+        })
+    }
+
+    /// Takes up the head that is due on a line, or refuses it, at the last moment of the line. Answers `Done`.
+    pub fn open(&mut self, line: &mut Line, _at: u64, rules: &Mapper) -> Reply
+        requires free { self.old ≡ fresh_processor self.old.limits }
+        requires due { is_due self.old.limits line.old ≡ true }
+        ensures takes { TakesUpEach rules.now line.old self.old line.new self.new }
+        ensures reply { result ≡ Reply.Done }
+
+        // So heads can't be due without end.
+        ensures less { work_of line.new < work_of line.old }
+        ensures limits { self.new.limits ≡ self.old.limits }
+        ensures moment { line.new.moment ≡ line.old.moment }
+    {
+        self.take_up(line, rules);
+        line.rest(&self.limits);
+        Reply::Done
+    }
+
+    /// Takes what the socket tells while the request is open, at the later of this moment and the line's last one.
+    pub fn event(&mut self, line: &mut Line, at: u64, event: Event, bytes: &[u8]) -> Reply
+        requires open { is_open_at self.old.stage ≡ true }
+        requires line { line.old.is_open ≡ true }
+        requires moment { at ≤ GREATEST_MOMENT }
+        ensures answers { AnswersEachEvent event bytes.now line.old self.old result line.new self.new }
+        ensures same { self.new ≡ self.old }
+        ensures moment { line.new.moment ≡ max line.old.moment at }
+    {
+        line.advance(at);
+        line.take(event, bytes, &self.limits)
+    }
+
+    /// A worker turns to the open request: the callback that is owed begins.
+    pub fn run(&mut self, line: &mut Line, at: u64) -> Reply
+        requires open { is_open_at self.old.stage ≡ true }
+        requires line { line.old.is_open ≡ true }
+        requires moment { at ≤ GREATEST_MOMENT }
+        ensures answers { AnswersEachTurn line.old self.old result line.new self.new }
+        ensures stays { is_open_at self.new.stage ≡ true }
+        ensures limits { self.new.limits ≡ self.old.limits }
+        ensures moment { line.new.moment ≡ max line.old.moment at }
+    {
+        line.advance(at);
+        self.begin_job()
+    }
+
+    /// The callback that runs acts.
+    pub fn act(
+        &mut self,
+        line: &mut Line,
+        at: u64,
+        act: &Act,
+        bytes: &[u8],
+        _into: &mut [u8],
+    ) -> Reply
+        requires open { is_open_at self.old.stage ≡ true }
+        requires line { line.old.is_open ≡ true }
+        requires moment { at ≤ GREATEST_MOMENT }
+        requires within { IsWithinBytes act.now bytes.now }
+        ensures answers { AnswersEachAct act.now bytes.now line.old self.old result line.new self.new }
+        ensures limits { self.new.limits ≡ self.old.limits }
+        ensures moment { line.new.moment ≡ max line.old.moment at }
+        ensures unread { _into.new ≡ _into.old }
+    {
+        line.advance(at);
+        let Stage::Serving = self.stage else {
+            return Reply::NotActive;
+        };
+        match *act {
+            Act::Write(_) if line.cause().is_some() => Reply::Closed,
+            Act::Write(count) => self.write(&bytes[..count as usize]),
+            Act::Return => {
+                self.finish(line);
+                line.rest(&self.limits);
+                Reply::Done
+            }
+        }
+    }
+
+    /// The callback that is owed, where none runs.
+    pub fn next_job(&self, _line: &Line) -> Option<Job>
+        ensures { (T : Trace) → StandsFor T self.now → result ≡ next_job T }
+    {
+        self.owed_job()
+    }
+
+    /// Whether the request has ended.
+    pub fn is_over(&self) -> bool
+        ensures { result ≡ is_over_at self.now.stage }
+    {
+        self.stage == Stage::Over
+    }
+
+    /// Whether a request is open.
+    pub fn is_open(&self) -> bool
+        ensures { result ≡ is_open_at self.now.stage }
+    {
+        matches!(self.stage, Stage::Owed | Stage::Serving)
+    }
+
+    /// How many items the chart of the request has.
+    pub fn chart_len(&self) -> usize
+        ensures { result ≡ length self.now.progress.chart }
+    {
+        self.machine.chart_len()
+    }
+
+    /// The item of the chart at this place, from 0.
+    pub fn chart_item(&self, i: usize) -> ChartItem
+        requires { i < length self.now.progress.chart }
+        ensures { slice_get self.now.progress.chart i ≡ Some result }
+    {
+        self.machine.chart_item(i)
+    }
+
+    /// Leaves nothing of the request, and takes no memory.
+    pub fn clear(&mut self)
+        ensures fresh { self.new ≡ fresh_processor self.old.limits }
+
+        // It stands for each trace in which no request is open.
+        ensures stands { (T : Trace) → IsIdle (request_folds T) → StandsFor T self.new }
+    {
+        self.stage = Stage::Free;
+        self.table.clear();
+        self.machine.clear();
+        self.content.clear();
+        self.part = 0;
+        self.can_async = false;
+        self.keep = false;
+    }
+
+    /// Takes up the head that is due, or refuses it.
+    fn take_up(&mut self, line: &mut Line, rules: &Mapper)
+        requires free { self.old ≡ fresh_processor self.old.limits }
+        requires closed { line.old.is_open ≡ false }
+        requires room { length line.old.unsent ≤ begin_bound }
+        ensures line { line.new ≡ line_with (due_at self.old.limits rules.now line.old) line.old }
+        ensures request { self.new ≡ processor_with (due_at self.old.limits rules.now line.old) self.old }
+    {
+        match line.read_head(&self.limits, &mut self.table) {
+            Front::Wait => {}
+            Front::Bad => line.refuse(BAD_REQUEST, false),
+            Front::Head { length } => self.take_up_head(line, length, rules),
+        }
+    }
+
+    /// Takes up the head of this size, which stands in the table, or refuses it.
+    fn take_up_head(&mut self, line: &mut Line, size: usize, rules: &Mapper)
+        requires closed { line.old.is_open ≡ false }
+        requires some { 1 ≤ size }
+        requires within { size ≤ length line.old.unread }
+        requires room { length line.old.unsent ≤ begin_bound }
+        requires free { self.old ≡ record (fresh_processor self.old.limits) { table = just_read self.old.table.head } }
+        ensures line { line.new ≡ line_with (due_of_head self.old.limits rules.now size self.old.table.head line.old) line.old }
+        ensures request { self.new ≡ processor_with (due_of_head self.old.limits rules.now size self.old.table.head line.old) (fresh_processor self.old.limits) }
+    {
+        match judge(&mut self.table, rules) {
+            Judgement::TurnedAway { status } => {
+                line.refuse(status, self.table.method() == b"HEAD".as_slice());
+                self.table.clear();
+            }
+            Judgement::Unserved { keep } => {
+                self.keep = line.next_persists(keep, &self.limits);
+                line.begin(size, false);
+                line.end_with_error(NOT_FOUND, self.keep, self.table.minor());
+                self.stage = Stage::Over;
+            }
+            Judgement::Served { found, keep, go_on } => {
+                self.keep = line.next_persists(keep, &self.limits);
+                self.part = found.part;
+                self.can_async = found.can_async;
+                line.begin(size, go_on);
+                self.stage = Stage::Owed;
+            }
+        }
+    }
+
+    fn owed_job(&self) -> Option<Job>
+        ensures { result ≡ job_at self.now }
+    {
+        match self.stage {
+            Stage::Owed => Some(Job::Service { part: self.part }),
+            _ => None,
+        }
+    }
+
+    /// Begins the callback that is owed.
+    fn begin_job(&mut self) -> Reply
+        ensures reply { result ≡ job_reply (job_at self.old) }
+        ensures parts { self.new ≡ after_job (job_at self.old) self.old }
+    {
+        let Some(job) = self.owed_job() else {
+            return Reply::Idle;
+        };
+        let _done = self.machine.call(Call::Run);
+        self.stage = Stage::Serving;
+        Reply::Begun(job)
+    }
+
+    /// Puts content, as much as there is room for; `Again` where there is none and some is asked.
+    fn write(&mut self, bytes: &[u8]) -> Reply
+        ensures reply { result ≡ write_reply self.old (length bytes.now) }
+        ensures parts { self.new ≡ after_write (length bytes.now) bytes.now self.old }
+    {
+        let room = CONTENT_BUFFER - self.content.len();
+        let count = bytes.len().min(room);
+        if count == 0 && !bytes.is_empty() {
+            return Reply::Again;
+        }
+        extend_in_room(&mut self.content, &bytes[..count]);
+        Reply::Taken(count as u64)
+    }
+
+    /// The service returns: the request ends, and its answer is written.
+    fn finish(&mut self, line: &mut Line)
+        requires serving { self.old.stage ≡ Stage.Serving }
+        requires open { line.old.is_open ≡ true }
+        ensures line { line.new ≡ line_returned self.old line.old }
+        ensures request { self.new ≡ after_return self.old }
+    {
+        let _done = self.machine.call(Call::Return);
+        line.end_with_content(&self.content, self.keep, self.table.minor());
+        self.stage = Stage::Over;
+    }
+}
+
+#[cfg(test)]
+mod tests;

@@ -1,0 +1,5 @@
+use Rattle.cy_respond.proofs.HeadEnds as heads
+use Rattle.cy_respond.proofs.laws.fields_stand_alone.Goals as goal
+
+pub returns : goal.returns
+returns c = heads.fields_stand_alone

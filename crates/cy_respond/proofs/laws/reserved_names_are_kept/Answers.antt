@@ -1,0 +1,5 @@
+use Rattle.cy_respond.proofs.ReservedNames as reserved
+use Rattle.cy_respond.proofs.laws.reserved_names_are_kept.Goals as goal
+
+pub returns : goal.returns
+returns c = reserved.reserved_names_are_kept

@@ -1,0 +1,23 @@
+-- What is kept of the lines so far.
+use Rattle.std.specs.Prelude.{◌≡◌, ◌≤◌, true, count_by, if◌then◌else◌}
+use Rattle.std.specs.List.{list_all, sum_by}
+use Rattle.cy_script.specs.declared.draft.Draft.TheInside.{Inside}
+use Rattle.cy_script.specs.declared.statements.Statement.{Statement}
+use Rattle.cy_script.specs.declared.statements.Statement.TheVariants as statement
+use Rattle.cy_script.specs.Conditions.{has_part, is_admit, is_of_the_connection, most_written, written_by}
+use Rattle.cy_script.specs.Lines.{most_part}
+use Rattle.cy_script.specs.Settings.{greatest_of}
+
+-- the steps are counted
+pub record IsCounted (d : Inside) : Type 0 where
+  pub parts : list_all has_part d.rules.items ≡ true
+  pub one : list_all is_of_the_connection d.steps.items ≡ true
+  pub admits : count_by is_admit d.steps.items ≡ (if d.admits then 1 else 0)
+  pub written : sum_by written_by d.steps.items ≡ d.written
+  pub short : d.written ≤ most_written
+
+-- the number in a statement is no greater than it may be
+abbrev pub IsBounded : Statement → Type 0
+IsBounded (statement.Set setting value) = value ≤ greatest_of setting
+IsBounded (statement.Rule rule) = rule.part ≤ most_part
+IsBounded s = Unit {0}

@@ -1,0 +1,49 @@
+-- What holds of every script that is read.
+use Rattle.std.specs.Prelude.{◌≡◌, ℕ, ◌⊎◌, ℤ, pos, negsuc, ◌==◌, Bool, true, List, length}
+use Rattle.std.specs.List.{list_all}
+use Rattle.cy_event.specs.declared.limits.Limits.{Limits}
+use Rattle.cy_event.specs.declared.steps.Act.TheVariants as act
+use Rattle.cy_event.specs.declared.steps.Event.TheVariants as event
+use Rattle.cy_event.specs.declared.steps.Step.{Step}
+use Rattle.cy_event.specs.declared.steps.Step.TheVariants as step
+use Rattle.cy_script.specs.declared.script.Script.{Script}
+use Rattle.cy_script.specs.declared.settings.Setting.TheVariants.{MaxConnections, MaxHttpHeaderSize, MaxHeaderCount, MaxKeepAliveRequests, ConnectionTimeout, AsyncTimeout, MaxSwallowSize, MaxTrailerSize}
+use Rattle.cy_script.specs.Conditions.{has_part, AreRules, AreSteps}
+use Rattle.cy_script.specs.Settings.{IsInRange}
+use Rattle.cy_script.specs.Spelling.{parts_of}
+
+-- a number of requests, or none
+abbrev pub IsKeepAlive : ℤ → Type 0
+IsKeepAlive requests = (requests ≡ negsuc 0) ⊎ ((n : ℕ) × IsInRange MaxKeepAliveRequests n × (requests ≡ pos n))
+
+-- each value is within its setting's range
+pub record AreLimits (limits : Limits) : Type 0 where
+  pub connections : IsInRange MaxConnections limits.max_connections
+  pub head : IsInRange MaxHttpHeaderSize limits.max_head
+  pub fields : IsInRange MaxHeaderCount limits.max_fields
+  pub keep_alive : IsKeepAlive limits.max_keep_alive
+  pub connection_timeout : IsInRange ConnectionTimeout limits.connection_timeout
+  pub async_timeout : IsInRange AsyncTimeout limits.async_timeout
+  pub swallow : IsInRange MaxSwallowSize limits.max_swallow
+  pub trailer : IsInRange MaxTrailerSize limits.max_trailer
+
+-- no bytes
+abbrev pub is_nothing : List ℕ → Bool
+is_nothing bytes = length bytes == 0
+
+-- the bytes beside an event or an act are exactly those that it counts
+abbrev pub is_counted : Step → Bool
+is_counted (step.On conn event.End bytes) = is_nothing bytes
+is_counted (step.On conn (event.Took n) bytes) = is_nothing bytes
+is_counted (step.Act conn (act.Write n) bytes) = n == length bytes
+is_counted (step.Act conn act.Return bytes) = is_nothing bytes
+is_counted s = true
+
+-- the script is within what a text of it may say
+pub record IsScript (script : Script) : Type 0 where
+  pub limits : AreLimits script.limits
+  pub parts : script.limits.parts ≡ parts_of script.rules
+  pub rules : AreRules script.rules
+  pub known_parts : list_all has_part script.rules ≡ true
+  pub steps : AreSteps script.steps
+  pub counted : list_all is_counted script.steps ≡ true

@@ -1,0 +1,200 @@
+//! What the lines of a script have said so far.
+
+ghost use Rattle.std.specs.Prelude.{◌≡◌, ◌≤◌, ◌++◌, ◌∷◌, [], ◌==◌, not, length, true};
+ghost use Rattle.std.specs.List.{list_all};
+ghost use Rattle.cy_script.specs.Answers.{Reads};
+ghost use Rattle.cy_script.specs.Conditions.{has_part, is_admit, is_of_the_connection, written_by};
+ghost use Rattle.cy_script.specs.Reading.{has_pattern, is_next_rule};
+ghost use Rattle.cy_script.specs.Spelling.{parts_of};
+
+use crate::fault::ScriptFault;
+use crate::script::{Rules, Script, Steps};
+use crate::statements::Statement;
+use cy_event::{Act, Limits, Step};
+use cy_map::{MAX_RULES, Rule, is_pattern};
+use std::alloc::Global;
+use std::marker::Model;
+
+/// The most bytes that the steps of a script write.
+const MOST_WRITTEN: u32 = 8192;
+
+/// What lines have said so far, seen as a script.
+#[derive(Drop)]
+pub(crate) struct Draft {
+    limits: Limits,
+    rules: Vec<Rule>,
+    steps: Vec<Step>,
+    /// Whether a step admits the connection.
+    admits: bool,
+    /// How many bytes the steps write.
+    written: u32,
+}
+
+impl Model for Draft {
+    ghost use Rattle.cy_script.specs.declared.script.Script.{Script};
+    ghost use Rattle.cy_script.specs.Drafts.{IsCounted};
+
+    ghost Value = { Script };
+
+    ghost view = { λ d. record { limits = d.limits; rules = d.rules.items; steps = d.steps.items } };
+
+    ghost invariant = { IsCounted };
+}
+
+impl Draft {
+    ghost use Rattle.cy_script.specs.Reading.{after_statement, are_steps, before_steps, nothing_said, with_parts};
+    ghost use Rattle.cy_script.specs.Drafts.{IsBounded};
+    ghost use Rattle.cy_script.specs.Lines.{most_part};
+    ghost use Rattle.std.specs.Prelude.{if◌then◌else◌, None, Some};
+
+    /// Nothing is said yet.
+    pub(crate) fn new(alloc: Global) -> Draft
+        ensures { result ≡ nothing_said }
+    {
+        Draft {
+            limits: Limits::standard(0),
+            rules: Vec::new(alloc),
+            steps: Vec::new(alloc),
+            admits: false,
+            written: 0,
+        }
+    }
+
+    /// The script, with the number of its components.
+    pub(crate) fn finish(self) -> Script
+        ensures { result ≡ with_parts self }
+    {
+        let parts = parts_of(self.rules.as_slice());
+        Script {
+            limits: Limits {
+                parts,
+                ..self.limits
+            },
+            rules: Rules::of(self.rules),
+            steps: Steps::of(self.steps),
+        }
+    }
+
+    /// Takes what a further line says.
+    pub(crate) fn take(&mut self, statement: Statement) -> Result<(), ScriptFault>
+        requires { IsBounded statement }
+        ensures { Reads (λ _. self.new) result (after_statement self.old statement) }
+    {
+        match statement {
+            Statement::Nothing => Ok(()),
+            Statement::Set(setting, value) => self.set_limits(setting.set(self.limits, value)),
+            Statement::NoLimit => self.set_limits(Limits {
+                max_keep_alive: -1,
+                ..self.limits
+            }),
+            Statement::Rule(rule) => self.add_rule(rule),
+            Statement::Step(step) => self.add_step(step),
+        }
+    }
+
+    fn has_steps(&self) -> bool
+        ensures { result ≡ not (length self.now.steps == 0) }
+    {
+        !self.steps.is_empty()
+    }
+
+    /// Takes other limits, where no step stands before.
+    fn set_limits(&mut self, limits: Limits) -> Result<(), ScriptFault>
+        ensures { Reads (λ _. self.new) result (before_steps self.old (record self.old { limits = limits })) }
+    {
+        if self.has_steps() {
+            return Err(ScriptFault::Refused);
+        }
+        self.limits = limits;
+        Ok(())
+    }
+
+    /// Takes the next rule, where no step stands before.
+    fn add_rule(&mut self, rule: Rule) -> Result<(), ScriptFault>
+        requires { rule.part ≤ most_part }
+        ensures { Reads (λ _. self.new) result
+            (if is_next_rule self.old.rules rule then before_steps self.old (record self.old { rules = self.old.rules ++ rule ∷ [] }) else None) }
+    {
+        if self.has_steps() || !is_next_rule(self.rules.as_slice(), &rule) {
+            return Err(ScriptFault::Refused);
+        }
+        self.rules.push(rule)?;
+        Ok(())
+    }
+
+    /// Takes the next step. The connection is admitted once, and the steps write few enough bytes.
+    fn add_step(&mut self, step: Step) -> Result<(), ScriptFault>
+        ensures { Reads (λ _. self.new) result
+            (if are_steps (self.old.steps ++ step ∷ []) then Some (record self.old { steps = self.old.steps ++ step ∷ [] }) else None) }
+    {
+        let admits = is_admit(&step);
+        let written = written_by(&step);
+        if !is_of_the_connection(&step)
+            || (admits && self.admits)
+            || written > MOST_WRITTEN - self.written
+        {
+            return Err(ScriptFault::Refused);
+        }
+        self.steps.push(step)?;
+        self.admits = self.admits || admits;
+        self.written += written;
+        Ok(())
+    }
+}
+
+/// Whether the pattern is one and stands nowhere before, and there is room for the rule.
+fn is_next_rule(rules: &[Rule], rule: &Rule) -> bool
+    ensures { result ≡ is_next_rule rules.now rule.now }
+{
+    let pattern = rule.pattern.as_slice();
+    is_pattern(pattern) && !has_pattern(rules, pattern) && rules.len() < MAX_RULES
+}
+
+/// Whether one of the rules has the pattern.
+fn has_pattern(rules: &[Rule], pattern: &[u8]) -> bool
+    ensures { result ≡ has_pattern rules.now pattern.now }
+{
+    rules.iter().any(|rule| rule.pattern.as_slice() == pattern)
+}
+
+/// One more than the greatest number of a component, or 0 without rules.
+fn parts_of(rules: &[Rule]) -> u32
+    requires { list_all has_part rules.now ≡ true }
+    ensures { result ≡ parts_of rules.now }
+{
+    let mut parts = 0;
+    for rule in rules {
+        parts = parts.max(rule.part + 1);
+    }
+    parts
+}
+
+/// Whether a step is one of the only connection that a script has so far.
+fn is_of_the_connection(step: &Step) -> bool
+    ensures { result ≡ is_of_the_connection step.now }
+{
+    match step {
+        Step::At(_) => false,
+        Step::Admit(conn) | Step::Run(conn) => *conn == 1,
+        Step::On { conn, .. } | Step::Act { conn, .. } => *conn == 1,
+    }
+}
+
+fn is_admit(step: &Step) -> bool
+    ensures { result ≡ is_admit step.now }
+{
+    matches!(step, Step::Admit(_))
+}
+
+/// How many bytes of content a step writes.
+fn written_by(step: &Step) -> u32
+    ensures { result ≡ written_by step.now }
+{
+    match step {
+        Step::Act {
+            act: Act::Write(count),
+            ..
+        } => *count,
+        _ => 0,
+    }
+}

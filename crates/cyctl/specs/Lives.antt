@@ -1,0 +1,63 @@
+-- What it means that a connection goes on rightly, for each trace that it stood for.
+use Rattle.std.specs.Prelude.{◌≡◌, ◌≤◌, ℕ, false, List, [], ◌∷◌, ◌++◌, if◌then◌else◌}
+use Rattle.cy_event.specs.declared.steps.Act.{Act}
+use Rattle.cy_event.specs.declared.steps.Event.{Event}
+use Rattle.cy_event.specs.declared.steps.Reply.{Reply}
+use Rattle.cy_event.specs.declared.table.ChartItem.{ChartItem}
+use Rattle.cy_map.specs.declared.rule.Rule.{Rule}
+use Rattle.cy_model.specs.Entries.{after_callback, after_turn, callback_reply, job_reply, owed_after, reply_to_event, rested_event}
+use Rattle.cy_model.specs.Marks.{Trace}
+use Rattle.cy_model.specs.Settling.{rested, settled}
+use Rattle.cy_proc.specs.LineChanges.{work_of}
+use Rattle.cy_proc.specs.Processors.{is_open_at, is_over_at}
+use Rattle.cyctl.specs.Parts.{LiveParts, Lives}
+
+-- some trace has led to these parts
+abbrev pub IsAlive : LiveParts → Type 0
+IsAlive p = (T : Trace) × Lives T p
+
+-- a trace after each trace that the parts stood for
+abbrev pub LivesAfter : (Trace → Trace) → LiveParts → LiveParts → Type 0
+LivesAfter next old new = (T : Trace) → Lives T old → Lives (next T) new
+
+abbrev pub RestsEach : LiveParts → LiveParts → Type 0
+RestsEach old new = LivesAfter (rested old.limits old.line.moment) old new
+
+abbrev pub SettlesEach : List Rule → LiveParts → LiveParts → Type 0
+SettlesEach rules old new = LivesAfter (settled old.limits rules old.line.moment) old new
+
+-- the reply is the wanted one, and the parts stand for the trace that follows
+pub record AnswersLive (wanted : Reply) (after : Trace) (r : Reply) (p : LiveParts) : Type 0 where
+  pub reply : r ≡ wanted
+  pub lives : Lives after p
+
+abbrev pub LivesAfterEvent : Event → List ℕ → LiveParts → Reply → LiveParts → Type 0
+LivesAfterEvent e b old r new =
+    (T : Trace) → Lives T old → AnswersLive (reply_to_event T e b) (rested_event old.limits old.line.moment T e b) r new
+
+-- a worker's turn at a moment
+abbrev pub AnswersTurn : LiveParts → List Rule → Trace → Trace → Reply → LiveParts → Type 0
+AnswersTurn old rules T S r new = AnswersLive (job_reply (owed_after T S)) (after_turn old.line.moment T S) r new
+
+abbrev pub LivesAfterTurn : List Rule → LiveParts → Reply → LiveParts → Type 0
+LivesAfterTurn rules old r new =
+    (T : Trace) → Lives T old → is_over_at old.processor.stage ≡ false → AnswersTurn old rules T (settled old.limits rules old.line.moment T) r new
+
+abbrev pub LivesAfterAct : List Rule → Act → List ℕ → LiveParts → Reply → LiveParts → Type 0
+LivesAfterAct rules a b old r new =
+    (T : Trace) → Lives T old → AnswersLive (callback_reply T a) (after_callback old.limits rules old.line.moment T a b) r new
+
+-- limits and moment are as they were, and no chart waits to be kept where none did
+pub record KeepsEach (old new : LiveParts) : Type 0 where
+  pub limits : new.limits ≡ old.limits
+  pub moment : new.line.moment ≡ old.line.moment
+  pub kept : is_over_at old.processor.stage ≡ false → is_over_at new.processor.stage ≡ false
+
+-- resting leaves no more to do, and the moment
+pub record Closes (old new : LiveParts) : Type 0 where
+  pub work : work_of new.line ≤ work_of old.line
+  pub moment : new.line.moment ≡ old.line.moment
+
+-- the charts of all requests
+abbrev pub charts_in : LiveParts → List (List ChartItem)
+charts_in p = if is_open_at p.processor.stage then p.charts ++ p.processor.progress.chart ∷ [] else p.charts
