@@ -33,7 +33,7 @@ script() {
 }
 
 # How many requests, and the bound of the milliseconds (0: none).
-row() {
+measure_requests() {
     local requests=$1 most_ms=$2 status micros kib greatest_kib=0 times=() verdict="" ended
     script "$requests" >"$room/input"
     for _ in 1 2 3 4 5; do
@@ -56,8 +56,8 @@ row() {
 }
 
 printf '%10s %10s %14s %10s %8s %10s %10s\n' requests seconds 'requests/s' wanted MiB 'script MiB' 'report MiB'
-row 100 0
-row 1000 0
-row 10000 1000
+measure_requests 100 0
+measure_requests 1000 0
+measure_requests 10000 1000
 
 exit "$missed"
