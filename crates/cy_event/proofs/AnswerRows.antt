@@ -77,4 +77,5 @@ pub past_the_length : write_reply fresh_answer 0 (codes "abc") (record { sending
 past_the_length = refl
 
 pub sizes_in_hexadecimal : hex_text 8192 ++ hex_text 26 ++ hex_text 15 ++ hex_text 4095 ≡ codes "20001affff"
+unfolding digits
 sizes_in_hexadecimal = refl

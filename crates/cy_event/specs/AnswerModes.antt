@@ -1,6 +1,7 @@
 -- How the content of an answer is framed and sent, and what its head says of that and of the connection (RFC 9112,
 -- sections 6, 7.1 and 9.3; RFC 9110, section 6.4.1).
-use Rattle.std.specs.Prelude.{ℕ, ◌/◌, ◌%◌, Bool, true, false, not, ◌&&◌, ◌||◌, ◌==◌, nat_lt, if◌then◌else◌, List, [], ◌∷◌, ◌++◌, length, Option, None, Some, slice_index, codes}
+use Rattle.std.specs.Prelude.{ℕ, Bool, true, false, not, ◌&&◌, ◌||◌, ◌==◌, if◌then◌else◌, List, [], ◌∷◌, ◌++◌, length, Option, None, Some, is_none, codes}
+use Rattle.std.specs.Fmt.{digits}
 use Rattle.cy_event.specs.Answers.{Answer, Connection, silent, close, keep_alive, content_length, crlf, head_text}
 
 -- the request that is answered: its version is HTTP/1.minor, its method may be HEAD, and its connection may be kept
@@ -48,10 +49,6 @@ chunked_line true = codes "Transfer-Encoding: chunked\r\n"
 abbrev pub framing_lines : Option ℕ → Bool → List ℕ
 framing_lines n in_chunks = length_line n ++ chunked_line in_chunks
 
-abbrev pub is_none : Option ℕ → Bool
-is_none None = true
-is_none (Some n) = false
-
 abbrev pub is_until_close : Mode → Bool
 is_until_close until_close = true
 is_until_close void = false
@@ -86,16 +83,9 @@ head_of_shape a shape at = head_text a (framing_lines shape.told_length shape.in
 
 -- ---- pieces (RFC 9112, section 7.1)
 
-abbrev pub hex_digit : ℕ → ℕ
-hex_digit n = slice_index (codes "0123456789abcdef") n
-
--- a number below 65,536 in hexadecimal, without zeros before it
+-- a number in hexadecimal, in lower case and without zeros before it
 abbrev pub hex_text : ℕ → List ℕ
-hex_text n =
-    if nat_lt n 16 then hex_digit n ∷ []
-    else (if nat_lt n 256 then hex_digit (n / 16) ∷ hex_digit (n % 16) ∷ []
-    else (if nat_lt n 4096 then hex_digit (n / 256) ∷ hex_digit (n / 16 % 16) ∷ hex_digit (n % 16) ∷ []
-    else hex_digit (n / 4096) ∷ hex_digit (n / 256 % 16) ∷ hex_digit (n / 16 % 16) ∷ hex_digit (n % 16) ∷ []))
+hex_text n = digits 16 false n
 
 -- one chunk, and none where there is no byte, since a chunk of no bytes is the last
 abbrev pub chunk_text : List ℕ → List ℕ

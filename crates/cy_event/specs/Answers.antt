@@ -32,8 +32,8 @@ after_put b a = record a { content = a.content ++ b }
 abbrev pub content_buffer : ℕ
 content_buffer = 8192
 
--- How many of n bytes a write takes where so many wait: what the content buffer has room for. Nothing is cut from it
--- before the end so far.
+-- How many of n bytes a write takes where so many wait and nothing of them can be cut: what the content buffer has room
+-- for.
 abbrev pub takes : ℕ → ℕ → ℕ
 takes waiting n = min n (content_buffer - waiting)
 
@@ -72,11 +72,11 @@ head_of_answer a at connection = head_text a (content_length (unwrap_or a.set_le
 abbrev pub answer_text : Answer → ℕ → Connection → List ℕ
 answer_text a at connection = head_of_answer a at connection ++ a.content
 
--- The answer to a head that is refused: its connection closes. To a HEAD request it has no content (RFC 9110, 9.3.2).
+-- The answer to a head that is refused: its connection closes. To a HEAD request it has no content (RFC 9110, section 9.3.2).
 abbrev pub refusal_text : ℕ → Bool → ℕ → List ℕ
 refusal_text status to_head at =
     head_of_answer (error_answer status) at close ++ (if to_head then [] else (error_answer status).content)
 
--- what tells a client to send the body that it holds back (RFC 9110, 15.2.1)
+-- what tells a client to send the body that it holds back (RFC 9110, section 15.2.1)
 abbrev pub continue_text : List ℕ
 continue_text = codes "HTTP/1.1 100 \r\n\r\n"

@@ -24,7 +24,7 @@ pub record Chunk : Type 0 where
   pub line : SizeLine
   pub bytes : List ℕ
 
--- chunked-body: chunks, the last line, and the fields of the trailer section
+-- chunked-body: chunks, the last line, and the fields of the trailer section, whose values keep the blanks around them
 pub record ChunkedBody : Type 0 where
   pub chunks : List Chunk
   pub last : SizeLine

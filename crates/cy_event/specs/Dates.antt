@@ -1,4 +1,4 @@
--- The Date field's text of a moment (RFC 9110, 5.6.7): the calendar counted from 1 January 1970, a Thursday.
+-- The Date field's text of a moment (RFC 9110, section 5.6.7): the calendar counted from 1 January 1970, a Thursday.
 use Rattle.std.specs.Prelude.{ℕ, zero, suc, ◌+◌, ◌-◌, ◌/◌, ◌%◌, Bool, not, ◌&&◌, ◌||◌, ◌==◌, nat_lt, if◌then◌else◌, List, [], ◌∷◌, ◌++◌, slice_index_or, codes}
 
 -- the Gregorian rule

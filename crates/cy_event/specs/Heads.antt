@@ -293,21 +293,7 @@ head_from_front max_head max_fields bytes (Some n) =
 unfoldable pub head_of : ℕ → ℕ → List ℕ → Front
 head_of max_head max_fields bytes = head_from_front max_head max_fields bytes (front_length bytes)
 
--- ---- plain requests
-
--- a field that changes how the body or the connection is read
-abbrev pub is_special : Field → Bool
-is_special field =
-    is_named (codes "Content-Length") field || (is_named (codes "Transfer-Encoding") field
-    || (is_named (codes "Connection") field || is_named (codes "Expect") field))
-
--- `GET / HTTP/1.1` without a body or an option
-unfoldable pub is_plain : Head → Bool
-is_plain h =
-    bytes_eq h.method (codes "GET") && (bytes_eq h.target (codes "/") && ((h.minor == 1)
-    && not (list_any is_special h.fields)))
-
 -- what an answer unfolds to compute these words on a literal
 unfoldable pub heads_on_literals : ⊤
-unfolding is_name_byte trimmed front_length whole_head host_fits head_of is_plain is_utf8 chars encode
+unfolding is_name_byte trimmed front_length whole_head host_fits head_of is_utf8 chars encode
 heads_on_literals = tt

@@ -1,6 +1,7 @@
 -- Reports that were worked out by hand, computed from the definitions. No contract rests on them.
-use Rattle.std.proofs.Common.{◌≡◌, ℕ, List, [], ◌∷◌, ◌++◌, codes, refl, length}
-use Rattle.std.specs.Prelude.{pos}
+use Rattle.std.proofs.Common.{◌≡◌, ℕ, true, false, List, [], ◌∷◌, ◌++◌, None, codes, refl, ap, length}
+use Rattle.std.specs.Prelude.{pos, nat_le, replicate}
+use Rattle.std.proofs.lemmas.List.{length-replicate}
 use Rattle.std.specs.Fmt.{digits}
 use Rattle.std.specs.Str.{is_utf8, chars}
 use lib.Utf8.{encode}
@@ -21,7 +22,7 @@ use Rattle.cy_event.specs.Targets.{target_of}
 use Rattle.cy_model.specs.Entries.{after, reply_to}
 use Rattle.cy_model.specs.Laws.{one_rule}
 use Rattle.cy_model.specs.Reports.{reply_text, reply_line, chart_line, connection_text, report}
-use Rattle.cy_model.specs.Settling.{rested, settled}
+use Rattle.cy_model.specs.Settling.{may_begin_by, rested, settled}
 use Rattle.cy_model.specs.Verdicts.{verdict_of}
 
 abbrev get : List ℕ
@@ -89,3 +90,10 @@ not_found = refl
 cycles_are_counted : chart_line 1 2 (One call.Run ∷ Cycles 12 ∷ One call.Return ∷ []) ≡ codes "chart 1 2 Run Cycles 12 Return\n"
 unfolding chart_line digits
 cycles_are_counted = refl
+
+-- a further head is taken up while 16,000 bytes wait for the socket, and not while one more does
+at_the_bound : may_begin_by false None (replicate 16000 0) ≡ true
+at_the_bound = ap (λ (n : ℕ). nat_le n 16000) (length-replicate {A = ℕ} 16000 0)
+
+past_the_bound : may_begin_by false None (replicate 16001 0) ≡ false
+past_the_bound = ap (λ (n : ℕ). nat_le n 16000) (length-replicate {A = ℕ} 16001 0)

@@ -26,7 +26,7 @@ module _ (limits : Limits) (rules : List Rule) where
   entry_counts t e h =
       let T = trace_of limits rules h.entries in
       elim (is_gone T) as (λ v. is_gone T ≡ v → one (with_entry t e h) ≤ cond (not v) 1 0) [
-        | true ↦ λ gone. subst (λ (v : Bool). cond (not v) 1 0 ≤ 0) (sym (gone_stays_gone limits rules t T e gone).0) (omega arith)
+        | true ↦ λ gone. subst (λ (v : Bool). cond (not v) 1 0 ≤ 0) (sym (gone_stays_gone limits rules t T e gone).gone) (omega arith)
         | false ↦ λ g. at_most_one (is_gone (trace_of limits rules (with_entry t e h).entries))
       ] refl
 

@@ -7,7 +7,7 @@ pub first_second : date_at 0 ≡ codes "Thu, 01 Jan 1970 00:00:00 GMT"
 unfolding date_at count_off
 first_second = refl
 
--- the example of RFC 9110
+-- the example of RFC 9110, section 5.6.7
 pub standards_example : date_at 784111777000 ≡ codes "Sun, 06 Nov 1994 08:49:37 GMT"
 unfolding date_at count_off
 standards_example = refl

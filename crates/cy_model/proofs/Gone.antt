@@ -6,14 +6,14 @@ use Rattle.cy_event.specs.declared.steps.CloseCause.TheVariants.{InputEnd}
 use Rattle.cy_event.specs.declared.steps.Event.{Event}
 use Rattle.cy_event.specs.declared.steps.Event.TheVariants as event
 use Rattle.cy_map.specs.declared.rule.Rule.{Rule}
-use Rattle.cy_model.specs.Entries.{Entry, opening, tick, on_event, on_run, on_act, after, is_closed_to}
+use Rattle.cy_model.specs.Entries.{opening, tick, on_event, on_run, on_act, after, is_closed_to}
 use Rattle.cy_model.specs.Folds.{cause_of, has_ended, is_broken, is_gone, is_open, output, unsent}
-use Rattle.cy_model.specs.Laws.{GoneStaysGone}
+use Rattle.cy_model.specs.Laws.{GoneStaysGone, StaysGone}
 use Rattle.cy_model.specs.Marks.{opened, caused, Trace}
-use Rattle.cy_model.specs.Settling.{after_move, begin_bound, due_move, due_of, first_move, front_of, is_awaited, may_begin, settle_step, settled}
+use Rattle.cy_model.specs.Settling.{after_move, begin_bound, due_move, due_of, first_move, front_of, is_awaited, may_begin, next_move, settle_step, settled}
 use Rattle.cy_model.proofs.Settlings.{settled-done}
 
--- ---- where there is a cause, no move applies
+-- ---- where there is a cause, or a request is open, no move applies
 
 some_not_none : {X : Type 0} (o : Option X) → is_some o ≡ true → is_none o ≡ false
 some_not_none None e = cc
@@ -24,9 +24,12 @@ may_not_begin T e =
     and_right (not (is_open T)) (is_none (cause_of T) && leb (length (unsent T)) begin_bound)
     (and_left (is_none (cause_of T)) (leb (length (unsent T)) begin_bound) (some_not_none (cause_of T) e))
 
+pub still : (limits : Limits) (rules : List Rule) (T : Trace) → may_begin T ≡ false → next_move limits rules T ≡ None
+still limits rules T e =
+    ap (λ (v : Bool). first_move (cond (v && (has_ended T && is_awaited (front_of limits T))) (Some (caused InputEnd ∷ [])) None ∷ cond v (due_move (due_of limits rules T)) None ∷ [])) e
+
 pub no_move : (limits : Limits) (rules : List Rule) (t : ℕ) (T : Trace) → may_begin T ≡ false → settle_step limits rules t T ≡ None
-no_move limits rules t T e =
-    ap (λ (v : Bool). after_move t T (first_move (cond (v && (has_ended T && is_awaited (front_of limits T))) (Some (caused InputEnd ∷ [])) None ∷ cond v (due_move (due_of limits rules T)) None ∷ []))) e
+no_move limits rules t T e = ap (after_move t T) (still limits rules T e)
 
 -- ---- where it is gone
 
@@ -44,24 +47,18 @@ closed_where_gone (event.Took n) T gone = or_left (is_gone T) (is_broken T) gone
 chosen : (v : Bool) (T R : Trace) → v ≡ true → (if v then T else R) ≡ T
 chosen v T R e = ap (λ (b : Bool). if b then T else R) e
 
--- no entry but an opening changes the trace
-same_after : (limits : Limits) (rules : List Rule) (t : ℕ) (T : Trace) (e : Entry) → is_gone T ≡ true → (is_gone (after limits rules t T e) ≡ true) × (output (after limits rules t T e) ≡ output T)
-unfolding after
-same_after limits rules t T opening gone =
-    let same = settled_gone limits rules t ((t, opened) ∷ T) gone in
-    (ap is_gone same ∙ gone, ap output same)
-same_after limits rules t T tick gone =
-    let same = settled_gone limits rules t T gone in
-    (ap is_gone same ∙ gone, ap output same)
-same_after limits rules t T (on_event e b) gone =
-    let same = chosen (is_closed_to e T) T _ (closed_where_gone e T gone) in
-    (ap is_gone same ∙ gone, ap output same)
-same_after limits rules t T on_run gone =
-    let same = chosen (is_gone T) T _ gone in
-    (ap is_gone same ∙ gone, ap output same)
-same_after limits rules t T (on_act a b) gone =
-    let same = chosen (is_gone T) T _ gone in
-    (ap is_gone same ∙ gone, ap output same)
+-- where an entry leads to a trace that is gone with the same output
+still_gone : (T R S : Trace) → S ≡ R → is_gone R ≡ true → output R ≡ output T → StaysGone T S
+still_gone T R S same gone written = record { gone = ap is_gone same ∙ gone; written = ap output same ∙ written }
 
+-- no entry but an opening changes the trace
 pub gone_stays_gone : GoneStaysGone
-gone_stays_gone limits rules t T e gone = same_after limits rules t T e gone
+unfolding after
+gone_stays_gone limits rules t T opening gone =
+    let R : Trace = (t, opened) ∷ T in
+    still_gone T R (settled limits rules t R) (settled_gone limits rules t R gone) gone refl
+gone_stays_gone limits rules t T tick gone = still_gone T T (settled limits rules t T) (settled_gone limits rules t T gone) gone refl
+gone_stays_gone limits rules t T (on_event e b) gone =
+    still_gone T T _ (chosen (is_closed_to e T) T _ (closed_where_gone e T gone)) gone refl
+gone_stays_gone limits rules t T on_run gone = still_gone T T _ (chosen (is_gone T) T _ gone) gone refl
+gone_stays_gone limits rules t T (on_act a b) gone = still_gone T T _ (chosen (is_gone T) T _ gone) gone refl

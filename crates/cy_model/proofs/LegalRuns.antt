@@ -1,12 +1,13 @@
 -- The own entries of each connection are a legal run.
-use Rattle.std.proofs.Common.{◌≡◌, ◌≢◌, ◌≤◌, ℕ, true, false, cond, List, [], ◌∷◌, ◌++◌, map, refl, sym, ap, arith, ◌==◌}
+use Rattle.std.proofs.Common.{◌≡◌, ◌≢◌, ◌≤◌, ℕ, true, false, cond, List, [], ◌∷◌, ◌++◌, All, map, refl, sym, ap, arith, ◌==◌}
+use Rattle.std.proofs.lemmas.List.Elements.{All-cons, All-head, All-map, All-nil, All-push, All-tail, All-weaker}
 use Rattle.cy_event.specs.declared.limits.Limits.{Limits}
 use Rattle.cy_event.specs.declared.steps.Step.{Step}
 use Rattle.cy_event.specs.declared.steps.Step.TheVariants as step
 use Rattle.cy_map.specs.declared.rule.Rule.{Rule}
 use Rattle.cy_model.specs.Connections.{History, add_own, admits, connections, moment, with_entry}
 use Rattle.cy_model.specs.Entries.{Entry, on_act, opening, reply_to, tick, on_event, trace_of, on_run}
-use Rattle.cy_model.specs.Laws.{Each, RunsAreLegal}
+use Rattle.cy_model.specs.Laws.{RunsAreLegal}
 use Rattle.cy_model.specs.Runs.{IsLegalRun, answered, entry_of, last_moment}
 use Rattle.cy_model.specs.Steps.{IsValid}
 
@@ -59,33 +60,34 @@ entry_is_ordered before now e h later other o = more h.entries o
     more (x ∷ es) p = (omega arith, other, later_is_ordered before now (x ∷ es) later p)
 
 abbrev pub AreOrdered : ℕ → List History → Type 0
-AreOrdered now hs = Each (λ h. IsOrdered now h.entries) hs
+AreOrdered now hs = All (λ h. IsOrdered now h.entries) hs
 
 later_are_ordered : (now later : ℕ) (hs : List History) → now ≤ later → AreOrdered now hs → AreOrdered later hs
-later_are_ordered now later [] h o = tt
-later_are_ordered now later (g ∷ hs) h o = (later_is_ordered now later g.entries h o.0, later_are_ordered now later hs h o.1)
+later_are_ordered now later hs h o =
+    All-weaker (λ g. IsOrdered now g.entries) (λ g. IsOrdered later g.entries) (λ g. later_is_ordered now later g.entries h) hs o
 
 ticked_are_ordered : (before now : ℕ) (hs : List History) → before ≤ now → AreOrdered before hs → AreOrdered now (map (with_entry now tick) hs)
-ticked_are_ordered before now [] h o = tt
-ticked_are_ordered before now (g ∷ hs) h o =
-    (entry_is_ordered before now tick g h (λ e. cc) o.0, ticked_are_ordered before now hs h o.1)
+ticked_are_ordered before now hs h o =
+    All-map (λ g. IsOrdered now g.entries) (with_entry now tick) hs
+    (All-weaker (λ g. IsOrdered before g.entries) (λ g. IsOrdered now (with_entry now tick g).entries) (λ g. entry_is_ordered before now tick g h (λ e. cc)) hs o)
 
 owned_are_ordered : (now c : ℕ) (e : Entry) (hs : List History) → e ≢ opening → AreOrdered now hs → AreOrdered now (add_own now c e hs)
-owned_are_ordered now c e [] other o = tt
-owned_are_ordered now c e (g ∷ hs) other o = (
-  elim (g.number == c) as (λ v. IsOrdered now (cond v (with_entry now e g) g).entries) [
-    | true ↦ entry_is_ordered now now e g (omega arith) other o.0
-    | false ↦ o.0
-  ],
-  owned_are_ordered now c e hs other o.1,
-)
+owned_are_ordered now c e [] other o = o
+owned_are_ordered now c e (g ∷ hs) other o =
+    let Now : History → Type 0 = λ h. IsOrdered now h.entries in
+    let first = All-head Now g hs o in
+    All-cons Now (cond (g.number == c) (with_entry now e g) g) (add_own now c e hs)
+    (elim (g.number == c) as (λ v. Now (cond v (with_entry now e g) g)) [
+      | true ↦ entry_is_ordered now now e g (omega arith) other first
+      | false ↦ first
+    ])
+    (owned_are_ordered now c e hs other (All-tail Now g hs o))
 
 opened_are_ordered : (now c : ℕ) (hs : List History) → AreOrdered now hs → AreOrdered now (hs ++ record { number = c; entries = (now, opening) ∷ [] } ∷ [])
-opened_are_ordered now c [] o = ((omega arith, refl), tt)
-opened_are_ordered now c (g ∷ hs) o = (o.0, opened_are_ordered now c hs o.1)
+opened_are_ordered now c hs o = All-push (λ h. IsOrdered now h.entries) hs _ o (omega arith, refl)
 
 pub connections_are_ordered : (limits : Limits) (rules : List Rule) (w : List Step) → IsValid w → AreOrdered (moment w) (connections limits rules w)
-connections_are_ordered limits rules [] v = tt
+connections_are_ordered limits rules [] v = All-nil (λ h. IsOrdered 0 h.entries)
 connections_are_ordered limits rules (step.At t ∷ w) v =
     ticked_are_ordered (moment w) t (connections limits rules w) v.1.0 (connections_are_ordered limits rules w v.0)
 connections_are_ordered limits rules (step.Admit c ∷ w) v =
@@ -104,10 +106,7 @@ connections_are_ordered limits rules (step.Act c a b ∷ w) v =
 
 -- ---- the law
 
-each_is_legal : (limits : Limits) (rules : List Rule) (now : ℕ) (hs : List History) → AreOrdered now hs → Each (λ h. IsLegalRun limits rules (answered limits rules h.entries)) hs
-each_is_legal limits rules now [] o = tt
-each_is_legal limits rules now (h ∷ hs) o = (ordered_is_legal limits rules now h.entries o.0, each_is_legal limits rules now hs o.1)
-
 pub runs_are_legal : RunsAreLegal
 runs_are_legal limits rules w v =
-    each_is_legal limits rules (moment w) (connections limits rules w) (connections_are_ordered limits rules w v)
+    All-weaker (λ h. IsOrdered (moment w) h.entries) (λ h. IsLegalRun limits rules (answered limits rules h.entries))
+    (λ h. ordered_is_legal limits rules (moment w) h.entries) (connections limits rules w) (connections_are_ordered limits rules w v)

@@ -9,3 +9,8 @@ pub mod Counts
 pub mod Histories
 pub mod ConnectionRows
 pub mod Places
+pub mod Waiting
+pub mod Growth
+pub mod Turns
+pub mod Ends
+pub mod Judged

@@ -113,9 +113,13 @@ pub record IsHeadMove (limits : Limits) (T : Trace) (ms : List Mark) : Type 0 wh
   pub takes : DueTakes (consumed T) (front_of limits T) due
   pub marks : due_move due ≡ Some ms
 
+pub head_move-parts : (limits : Limits) (rules : List Rule) (T : Trace) (ms : List Mark) → head_move limits rules T ≡ Some ms
+    → (may_begin T ≡ true) × (due_move (due_of limits rules T) ≡ Some ms)
+head_move-parts limits rules T ms e = when_true (may_begin T) (due_move (due_of limits rules T)) ms e
+
 head_move-some : (limits : Limits) (rules : List Rule) (T : Trace) (ms : List Mark) → head_move limits rules T ≡ Some ms → IsHeadMove limits T ms
 head_move-some limits rules T ms e =
-    let w = when_true (may_begin T) (due_move (due_of limits rules T)) ms e in
+    let w = head_move-parts limits rules T ms e in
     record {
       may = w.0;
       due = due_of limits rules T;
@@ -123,11 +127,19 @@ head_move-some limits rules T ms e =
       marks = w.1;
     }
 
--- the marks of the end of the input
-end_move-some : (limits : Limits) (T : Trace) (ms : List Mark) → end_move limits T ≡ Some ms → (may_begin T ≡ true) × (ms ≡ caused InputEnd ∷ [])
+-- the end of the input is a cause to close: a head may be taken up and is awaited, and none can come
+pub record IsEndMove (limits : Limits) (T : Trace) : Type 0 where
+  pub may : may_begin T ≡ true
+  pub ended : has_ended T ≡ true
+  pub awaits : is_awaited (front_of limits T) ≡ true
+
+end_move-some : (limits : Limits) (T : Trace) (ms : List Mark) → end_move limits T ≡ Some ms → IsEndMove limits T × (ms ≡ caused InputEnd ∷ [])
 end_move-some limits T ms e =
-    let w = when_true (may_begin T && (has_ended T && is_awaited (front_of limits T))) (Some (caused InputEnd ∷ [])) ms e in
-    ((and_parts (may_begin T) (has_ended T && is_awaited (front_of limits T)) w.0).0, cc)
+    let last : Bool = has_ended T && is_awaited (front_of limits T) in
+    let w = when_true (may_begin T && last) (Some (caused InputEnd ∷ [])) ms e in
+    let tests = and_parts (may_begin T) last w.0 in
+    let parts = and_parts (has_ended T) (is_awaited (front_of limits T)) tests.1 in
+    (record { may = tests.0; ended = parts.0; awaits = parts.1 }, cc)
 
 -- ---- each move leaves less to do
 
@@ -174,7 +186,7 @@ quiet_step-falls limits t T R e =
     let w = after_move-some t T R (first_move (quiet_moves limits T)) e in
     let m = end_move-some limits T w.0 (sym (first_move-one (end_move limits T)) ∙ w.1) in
     subst (λ (S : Trace). left_to_do S < left_to_do T) (sym (w.2 ∙ ap (λ (ms : List Mark). with_marks t ms T) m.1))
-    (work_by-cause (length (unread T)) InputEnd (cause_of T) (may_begin-parts T m.0).1)
+    (work_by-cause (length (unread T)) InputEnd (cause_of T) (may_begin-parts T m.0.may).1)
 
 -- a settling step is the first of the two that applies
 settle_step-two : (limits : Limits) (rules : List Rule) (t : ℕ) → IsFirstOf (settle_step limits rules t) (quiet_step limits t) (taken_up limits rules t)
@@ -203,12 +215,13 @@ unfolding settled
 settled-step limits rules t T R e =
     until_none-step left_to_do (settle_step limits rules t) (settle_step-falls limits rules t) (enough_moves T) (enough_moves R) T R e (left_to_do-bound T) (left_to_do-bound R)
 
--- what each move keeps is kept
-pub record KeepsMoves (limits : Limits) (P : Trace → Type 0) : Type 0 where
-  pub input_ends : (t : ℕ) (T : Trace) → may_begin T ≡ true → P T → P ((t, caused InputEnd) ∷ T)
-  pub heads : (t : ℕ) (T : Trace) (ms : List Mark) → IsHeadMove limits T ms → P T → P (with_marks t ms T)
+-- what each move by these rules keeps is kept
+pub record KeepsMovesBy (limits : Limits) (rules : List Rule) (P : Trace → Type 0) : Type 0 where
+  pub input_ends : (t : ℕ) (T : Trace) → IsEndMove limits T → P T → P ((t, caused InputEnd) ∷ T)
+  pub heads : (t : ℕ) (T : Trace) (ms : List Mark) → head_move limits rules T ≡ Some ms → P T → P (with_marks t ms T)
 
-step_keeps : (limits : Limits) (rules : List Rule) (t : ℕ) (P : Trace → Type 0) → KeepsMoves limits P → (T R : Trace) → settle_step limits rules t T ≡ Some R → P T → P R
+step_keeps : (limits : Limits) (rules : List Rule) (t : ℕ) (P : Trace → Type 0) → KeepsMovesBy limits rules P → (T R : Trace)
+    → settle_step limits rules t T ≡ Some R → P T → P R
 step_keeps limits rules t P k T R e p =
     ⊎_elim
     (λ quiet.
@@ -217,16 +230,28 @@ step_keeps limits rules t P k T R e p =
     subst P (sym (w.2 ∙ ap (λ (ms : List Mark). with_marks t ms T) m.1)) (k.input_ends t T m.0 p))
     (λ head.
     let w = after_move-some t T R (head_move limits rules T) head in
-    subst P (sym w.2) (k.heads t T w.0 (head_move-some limits rules T w.0 w.1) p))
+    subst P (sym w.2) (k.heads t T w.0 w.1 p))
     (settle_step-some limits rules t T R e)
 
-pub settled-keeps : (limits : Limits) (rules : List Rule) (t : ℕ) (P : Trace → Type 0) → KeepsMoves limits P → (T : Trace) → P T → P (settled limits rules t T)
+pub settled-keeps-by : (limits : Limits) (rules : List Rule) (t : ℕ) (P : Trace → Type 0) → KeepsMovesBy limits rules P → (T : Trace) → P T → P (settled limits rules t T)
 unfolding settled
-settled-keeps limits rules t P k T p =
+settled-keeps-by limits rules t P k T p =
     until_none-keeps P (settle_step limits rules t) (step_keeps limits rules t P k) (enough_moves T) T p
 
+-- the same, whatever the rules are
+pub record KeepsMoves (limits : Limits) (P : Trace → Type 0) : Type 0 where
+  pub input_ends : (t : ℕ) (T : Trace) → IsEndMove limits T → P T → P ((t, caused InputEnd) ∷ T)
+  pub heads : (t : ℕ) (T : Trace) (ms : List Mark) → IsHeadMove limits T ms → P T → P (with_marks t ms T)
+
+pub settled-keeps : (limits : Limits) (rules : List Rule) (t : ℕ) (P : Trace → Type 0) → KeepsMoves limits P → (T : Trace) → P T → P (settled limits rules t T)
+settled-keeps limits rules t P k T p =
+    settled-keeps-by limits rules t P
+    (record { input_ends = k.input_ends; heads = λ u S ms e. k.heads u S ms (head_move-some limits rules S ms e) })
+    T p
+
 -- the same of resting
-pub rested-keeps : (limits : Limits) (t : ℕ) (P : Trace → Type 0) → ((T : Trace) → may_begin T ≡ true → P T → P ((t, caused InputEnd) ∷ T)) → (T : Trace) → P T → P (rested limits t T)
+pub rested-keeps : (limits : Limits) (t : ℕ) (P : Trace → Type 0) → ((T : Trace) → IsEndMove limits T → P T → P ((t, caused InputEnd) ∷ T))
+    → (T : Trace) → P T → P (rested limits t T)
 unfolding rested
 rested-keeps limits t P ends T p =
     until_none-keeps P (quiet_step limits t)
@@ -333,9 +358,25 @@ second_none None None e = refl
 second_none None (Some ms) e = cc
 second_none (Some ms) second e = cc
 
-pub no_head_waits : (limits : Limits) (rules : List Rule) (t : ℕ) (T : Trace) → may_begin (settled limits rules t T) ≡ true → is_awaited (front_of limits (settled limits rules t T)) ≡ true
-no_head_waits limits rules t T may =
-    let S = settled limits rules t T in
-    let none : head_move limits rules S ≡ None = second_none (end_move limits S) (head_move limits rules S) (settled-rests limits rules t T) in
-    awaited_where_none limits rules (consumed S) (begun_count S + 1) (front_of limits S)
-    (sym (ap (λ (v : Bool). if v then due_move (due_of limits rules S) else None) may) ∙ none)
+first_none : (first second : Move) → first_move (first ∷ second ∷ []) ≡ None → first ≡ None
+first_none None second e = refl
+first_none (Some ms) second e = cc
+
+-- where no move applies and a head may be taken up, it is awaited
+pub awaited_at_rest : (limits : Limits) (rules : List Rule) (T : Trace) → next_move limits rules T ≡ None → may_begin T ≡ true → is_awaited (front_of limits T) ≡ true
+awaited_at_rest limits rules T rests may =
+    awaited_where_none limits rules (consumed T) (begun_count T + 1) (front_of limits T)
+    (sym (ap (λ (v : Bool). if v then due_move (due_of limits rules T) else None) may) ∙ second_none (end_move limits T) (head_move limits rules T) rests)
+
+-- and the input has not ended
+pub goes_on_at_rest : (limits : Limits) (rules : List Rule) (T : Trace) → next_move limits rules T ≡ None → may_begin T ≡ true → has_ended T ≡ false
+goes_on_at_rest limits rules T rests may =
+    by_tests (may_begin T) (has_ended T) (is_awaited (front_of limits T)) may (awaited_at_rest limits rules T rests may)
+    (first_none (end_move limits T) (head_move limits rules T) rests)
+  where
+    by_tests : (may has_ended awaits : Bool) → may ≡ true → awaits ≡ true
+        → (if may && (has_ended && awaits) then Some (caused InputEnd ∷ []) else None) ≡ None → has_ended ≡ false
+    by_tests true true true m a e = cc
+    by_tests true true false m a e = cc
+    by_tests true false awaits m a e = refl
+    by_tests false has_ended awaits m a e = cc

@@ -1,22 +1,30 @@
 -- Laws of the definitions. Each is the contract of a public function without a body.
-use Rattle.std.specs.Prelude.{◌≡◌, ◌≤◌, ℕ, ◌+◌, true, List, [], ◌∷◌, ◌++◌, codes, drop, Option, option_map, Some, None}
+use Rattle.std.specs.Prelude.{◌≡◌, ◌≤◌, ◌⊎◌, ℕ, ◌+◌, Bool, true, false, List, [], ◌∷◌, ◌++◌, All, codes, drop, length, Option, option_map, Some, None}
 use Rattle.cy_event.specs.declared.limits.Limits.{Limits}
 use Rattle.cy_event.specs.declared.steps.Act.TheVariants as act
+use Rattle.cy_event.specs.declared.steps.Call.{Call}
+use Rattle.cy_event.specs.declared.steps.CloseCause.{CloseCause}
+use Rattle.cy_event.specs.declared.steps.CloseCause.TheVariants.{InputEnd, Refused}
 use Rattle.cy_event.specs.declared.steps.Event.TheVariants as event
+use Rattle.cy_event.specs.declared.steps.Job.TheVariants as job
+use Rattle.cy_event.specs.declared.steps.Reply.TheVariants as reply
 use Rattle.cy_event.specs.declared.steps.Step.{Step}
 use Rattle.cy_event.specs.declared.steps.Step.TheVariants as step
 use Rattle.cy_event.specs.Limits.{standard}
 use Rattle.cy_map.specs.declared.rule.Rule.{Rule}
 use Rattle.cy_event.specs.Table.{IsLegal}
 use Rattle.cy_model.specs.Connections.{connections, counted, own_entries, reply_by, own}
-use Rattle.cy_model.specs.Entries.{Entry, after, trace_of}
-use Rattle.cy_event.specs.Heads.{found, head_of}
-use Rattle.cy_model.specs.Folds.{bytes_of, charts, is_gone, output, requests_of}
+use Rattle.cy_model.specs.Entries.{Entry, on_run, after, trace_of, reply_to}
+use Rattle.cy_event.specs.Answers.{refusal_text}
+use Rattle.cy_event.specs.Framings.{Framed}
+use Rattle.cy_event.specs.Heads.{Head, found, head_of}
+use Rattle.cy_model.specs.Folds.{bytes_of, cause_of, charts, consumed, ended_charts, has_ended, is_gone, is_open, is_served, output, request_of, requests_of, running}
 use Rattle.cy_model.specs.Marks.{TakenUp, Trace}
 use Rattle.cy_model.specs.Reports.{report}
 use Rattle.cy_model.specs.Runs.{IsLegalRun, answered}
 use Rattle.cy_model.specs.Steps.{IsValid}
-use Rattle.cy_model.specs.Settling.{front_of, is_awaited, may_begin, next_move, settle_step, settled, rested_and_taken_up}
+use Rattle.cy_model.specs.Settling.{due_by_verdict, due_of, front_of, is_awaited, may_begin, next_move, not_found, refusal, request, settle_step, settled, rested_and_taken_up}
+use Rattle.cy_model.specs.Verdicts.{served, verdict_of}
 
 -- no move applies to a settled trace
 abbrev pub SettlingRests : Type 0
@@ -24,15 +32,32 @@ SettlingRests = (limits : Limits) (rules : List Rule) (t : ℕ) (T : Trace) → 
 
 -- settling is unchanged by making its first move
 abbrev pub SettlingGoesOn : Type 0
-SettlingGoesOn = (limits : Limits) (rules : List Rule) (t : ℕ) (T R : Trace) → settle_step limits rules t T ≡ Some R → settled limits rules t T ≡ settled limits rules t R
+SettlingGoesOn =
+    (limits : Limits) (rules : List Rule) (t : ℕ) (T R : Trace)
+    → settle_step limits rules t T ≡ Some R → settled limits rules t T ≡ settled limits rules t R
 
 -- settling is resting, and then taking up a due head and resting again, while one is due
 abbrev pub SettlingIsTwoWords : Type 0
 SettlingIsTwoWords = (limits : Limits) (rules : List Rule) (t : ℕ) (T : Trace) → rested_and_taken_up limits rules t T ≡ settled limits rules t T
 
--- once all is settled no head waits that could be taken up or refused: where a head may be taken up, it is awaited
+-- whatever the entries of a connection are, no head waits that could be taken up or refused: where a head may be taken
+-- up, it is awaited. A head may have one byte at least: where it may have none, the first is malformed before a byte came
 abbrev pub NoHeadWaits : Type 0
-NoHeadWaits = (limits : Limits) (rules : List Rule) (t : ℕ) (T : Trace) → may_begin (settled limits rules t T) ≡ true → is_awaited (front_of limits (settled limits rules t T)) ≡ true
+NoHeadWaits =
+    (limits : Limits) (rules : List Rule) (entries : List (ℕ × Entry)) → 1 ≤ limits.max_head
+    → may_begin (trace_of limits rules entries) ≡ true → is_awaited (front_of limits (trace_of limits rules entries)) ≡ true
+
+-- nor does the end of the input wait: where a head may be taken up, the input has not ended
+abbrev pub NoEndWaits : Type 0
+NoEndWaits =
+    (limits : Limits) (rules : List Rule) (entries : List (ℕ × Entry)) → 1 ≤ limits.max_head
+    → may_begin (trace_of limits rules entries) ≡ true → has_ended (trace_of limits rules entries) ≡ false
+
+-- where a connection closes for the end of its input, no head was left: one is awaited still
+abbrev pub NoHeadIsLost : Type 0
+NoHeadIsLost =
+    (limits : Limits) (rules : List Rule) (entries : List (ℕ × Entry))
+    → cause_of (trace_of limits rules entries) ≡ Some InputEnd → is_awaited (front_of limits (trace_of limits rules entries)) ≡ true
 
 -- ---- the worked example
 
@@ -58,42 +83,128 @@ ExampleIsReported = report (standard 1) one_rule example_steps ≡ example_repor
 
 -- ---- runs
 
--- this holds of each
-abbrev pub Each : {X : Type 0} → (X → Type 0) → List X → Type 0
-Each P [] = Unit {0}
-Each P (x ∷ xs) = P x × Each P xs
-
 -- whatever the valid steps of a connector are, the own entries of each connection, so answered, are a legal run
 abbrev pub RunsAreLegal : Type 0
-RunsAreLegal = (limits : Limits) (rules : List Rule) (w : List Step) → IsValid w → Each (λ h. IsLegalRun limits rules (answered limits rules h.entries)) (connections limits rules w)
+RunsAreLegal =
+    (limits : Limits) (rules : List Rule) (w : List Step) → IsValid w
+    → All (λ h. IsLegalRun limits rules (answered limits rules h.entries)) (connections limits rules w)
 
 -- whatever the entries of a connection are, the calls of each of its requests are a legal history of the state table
 abbrev pub ChartsAreLegal : Type 0
-ChartsAreLegal = (limits : Limits) (rules : List Rule) (entries : List (ℕ × Entry)) → Each IsLegal (charts (trace_of limits rules entries))
+ChartsAreLegal = (limits : Limits) (rules : List Rule) (entries : List (ℕ × Entry)) → All IsLegal (charts (trace_of limits rules entries))
 
--- a connection that is gone stays gone, and nothing is added to its output
+-- the connection is gone, and nothing was added to its output
+pub record StaysGone (before later : Trace) : Type 0 where
+  pub gone : is_gone later ≡ true
+  pub written : output later ≡ output before
+
+-- a connection that is gone stays gone, whatever entry follows
 abbrev pub GoneStaysGone : Type 0
-GoneStaysGone = (limits : Limits) (rules : List Rule) (t : ℕ) (T : Trace) (e : Entry) → is_gone T ≡ true → (is_gone (after limits rules t T e) ≡ true) × (output (after limits rules t T e) ≡ output T)
+GoneStaysGone =
+    (limits : Limits) (rules : List Rule) (t : ℕ) (T : Trace) (e : Entry) → is_gone T ≡ true
+    → StaysGone T (after limits rules t T e)
 
 -- whatever the steps of a connector are, the limit of counted connections is kept
 abbrev pub LimitIsKept : Type 0
-LimitIsKept = (limits : Limits) (rules : List Rule) (w : List Step) → counted limits rules (connections limits rules w) ≤ limits.max_connections
+LimitIsKept =
+    (limits : Limits) (rules : List Rule) (w : List Step) → counted limits rules (connections limits rules w) ≤ limits.max_connections
 
 -- ---- heads at their places
 
--- the grammar finds the head at its place in these bytes
+-- the grammar finds the head at its place in these bytes, and whatever bytes come behind them
 abbrev pub IsAtPlace : Limits → List ℕ → TakenUp → Type 0
-IsAtPlace limits bytes r = head_of limits.max_head limits.max_fields (drop r.place bytes) ≡ found r.size r.head
+IsAtPlace limits bytes r =
+    (more : List ℕ) → head_of limits.max_head limits.max_fields (drop r.place (bytes ++ more)) ≡ found r.size r.head
 
--- the first stands at this place, and each later one where the one before it ends
-abbrev pub AreInRow : ℕ → List TakenUp → Type 0
-AreInRow place [] = Unit {0}
-AreInRow place (r ∷ rs) = (r.place ≡ place) × AreInRow (place + r.size) rs
+-- requests stand in a row, from this place to that: the first begins at the one, each later one where the one before it
+-- ends, and the last ends at the other
+abbrev pub AreInRow : ℕ → ℕ → List TakenUp → Type 0
+AreInRow from to [] = from ≡ to
+AreInRow from to (r ∷ rs) = (r.place ≡ from) × AreInRow (from + r.size) to rs
+
+-- the requests of a trace stand in all the bytes that came, from the first byte to those that wait
+pub record AreAtTheirPlaces (limits : Limits) (T : Trace) : Type 0 where
+  pub heads : All (IsAtPlace limits (bytes_of T)) (requests_of T)
+  pub row : AreInRow 0 (consumed T) (requests_of T)
 
 -- whatever the entries of a connection are, and so however its bytes were cut: each head that was taken up is the one
--- that the grammar finds at its place in all the bytes that came, and the next begins where its request ends
+-- that the grammar finds at its place in all the bytes that came, now and later; the next begins where its request
+-- ends, and what waits stands behind the last
 abbrev pub HeadsAreAtTheirPlaces : Type 0
-HeadsAreAtTheirPlaces = (limits : Limits) (rules : List Rule) (entries : List (ℕ × Entry)) → Each (IsAtPlace limits (bytes_of (trace_of limits rules entries))) (requests_of (trace_of limits rules entries)) × AreInRow 0 (requests_of (trace_of limits rules entries))
+HeadsAreAtTheirPlaces =
+    (limits : Limits) (rules : List Rule) (entries : List (ℕ × Entry)) → AreAtTheirPlaces limits (trace_of limits rules entries)
+
+-- what came, what was taken up, what was written and the charts of the ended requests stay, and what was added stands
+-- behind; so does a cause to close, once it was set
+pub record OnlyGrows (before later : Trace) : Type 0 where
+  pub bytes : (more : List ℕ) × (bytes_of later ≡ bytes_of before ++ more)
+  pub requests : (more : List TakenUp) × (requests_of later ≡ requests_of before ++ more)
+  pub written : (more : List ℕ) × (output later ≡ output before ++ more)
+  pub ended : (more : List (List Call)) × (ended_charts later ≡ ended_charts before ++ more)
+  pub cause : (k : CloseCause) → cause_of before ≡ Some k → cause_of later ≡ Some k
+
+-- whatever entry follows whatever trace
+abbrev pub NothingIsTakenBack : Type 0
+NothingIsTakenBack =
+    (limits : Limits) (rules : List Rule) (t : ℕ) (T : Trace) (e : Entry) → OnlyGrows T (after limits rules t T e)
+
+-- ---- ends and refusals
+
+-- whatever the entries of a connection are, each request that it took up has one chart: it ends once at most, and what
+-- was not taken up never ends
+abbrev pub RequestsEndOnce : Type 0
+RequestsEndOnce =
+    (limits : Limits) (rules : List Rule) (entries : List (ℕ × Entry))
+    → length (charts (trace_of limits rules entries)) ≡ length (requests_of (trace_of limits rules entries))
+
+-- a request of this number is what its head leads to: a rule serves it or none does, and it isn't to be refused. So its
+-- component, its asynchronous support and what is said of its connection are those of the verdict
+abbrev pub IsJudged : Limits → List Rule → ℕ → TakenUp → Type 0
+IsJudged limits rules number r =
+    let due = due_by_verdict limits r.place number r.size r.head (verdict_of rules r.head) in (due ≡ request r) ⊎ (due ≡ not_found r)
+
+-- requests that are numbered from here on
+abbrev pub AreJudged : Limits → List Rule → ℕ → List TakenUp → Type 0
+AreJudged limits rules number [] = Unit {0}
+AreJudged limits rules number (r ∷ rs) = IsJudged limits rules number r × AreJudged limits rules (number + 1) rs
+
+-- so are all that a connection took up, whatever its entries are
+abbrev pub RequestsAreJudged : Type 0
+RequestsAreJudged =
+    (limits : Limits) (rules : List Rule) (entries : List (ℕ × Entry)) → AreJudged limits rules 1 (requests_of (trace_of limits rules entries))
+
+-- a refusal is due at the front of the bytes that wait, and its answer is the last that was written
+pub record TellsRefusal (limits : Limits) (rules : List Rule) (T : Trace) : Type 0 where
+  pub status : ℕ
+  pub to_head : Bool
+  pub due : due_of limits rules T ≡ refusal status to_head
+  pub moment : ℕ
+  pub before : List ℕ
+  pub told : output T ≡ before ++ refusal_text status to_head moment
+
+-- whatever the entries of a connection are: it closes as refused only where the head that stands there is to be refused,
+-- and then the answer that says so was written
+abbrev pub RefusalsAreTold : Type 0
+RefusalsAreTold =
+    (limits : Limits) (rules : List Rule) (entries : List (ℕ × Entry))
+    → cause_of (trace_of limits rules entries) ≡ Some Refused → TellsRefusal limits rules (trace_of limits rules entries)
+
+-- ---- turns
+
+-- a worker's turn begins the service of the component that the rule for this head names
+pub record TurnBegins (limits : Limits) (rules : List Rule) (now : ℕ) (T : Trace) (head : Head) : Type 0 where
+  pub rule : Rule
+  pub framing : Framed
+  pub mapped : verdict_of rules head ≡ served rule framing
+  pub reply : reply_to limits rules now T on_run ≡ reply.Begun (job.Service rule.part)
+  pub runs : running (after limits rules now T on_run) ≡ Some (job.Service rule.part)
+
+-- whatever the entries of a connection are: while a request is open whose service has not begun, a worker's turn begins it
+abbrev pub TurnsServe : Type 0
+TurnsServe =
+    (limits : Limits) (rules : List Rule) (entries : List (ℕ × Entry)) (now : ℕ) (r : TakenUp)
+    → is_open (trace_of limits rules entries) ≡ true → is_served (trace_of limits rules entries) ≡ false
+    → request_of (trace_of limits rules entries) ≡ Some r → TurnBegins limits rules now (trace_of limits rules entries) r.head
 
 -- ---- own entries
 
@@ -105,7 +216,10 @@ own_trace limits rules w c = option_map (trace_of limits rules) (own_entries lim
 -- at the same moment is answered alike.
 pub record AreAlike (limits : Limits) (rules : List Rule) (w v : List Step) (c : ℕ) : Type 0 where
   pub trace : own_trace limits rules w c ≡ own_trace limits rules v c
-  pub replies : (now : ℕ) (e : Entry) → reply_by limits rules (own c e) now (connections limits rules w) ≡ reply_by limits rules (own c e) now (connections limits rules v)
+  pub replies : (now : ℕ) (e : Entry)
+      → reply_by limits rules (own c e) now (connections limits rules w) ≡ reply_by limits rules (own c e) now (connections limits rules v)
 
 abbrev pub OwnEntriesDecide : Type 0
-OwnEntriesDecide = (limits : Limits) (rules : List Rule) (w v : List Step) (c : ℕ) → own_entries limits rules w c ≡ own_entries limits rules v c → AreAlike limits rules w v c
+OwnEntriesDecide =
+    (limits : Limits) (rules : List Rule) (w v : List Step) (c : ℕ)
+    → own_entries limits rules w c ≡ own_entries limits rules v c → AreAlike limits rules w v c

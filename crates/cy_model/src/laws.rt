@@ -1,5 +1,5 @@
 //! Laws of the definitions: a function without parameters and without a body has the law as its contract.
-ghost use Rattle.cy_model.specs.Laws.{ChartsAreLegal, ExampleIsReported, GoneStaysGone, HeadsAreAtTheirPlaces, LimitIsKept, NoHeadWaits, OwnEntriesDecide, RunsAreLegal, SettlingGoesOn, SettlingIsTwoWords, SettlingRests};
+ghost use Rattle.cy_model.specs.Laws.{ChartsAreLegal, ExampleIsReported, GoneStaysGone, HeadsAreAtTheirPlaces, LimitIsKept, NoEndWaits, NoHeadIsLost, NoHeadWaits, NothingIsTakenBack, OwnEntriesDecide, RefusalsAreTold, RequestsAreJudged, RequestsEndOnce, RunsAreLegal, SettlingGoesOn, SettlingIsTwoWords, SettlingRests, TurnsServe};
 
 /// No move applies to what is settled.
 pub fn settling_rests()
@@ -16,9 +16,19 @@ pub fn settling_is_two_words()
     ensures { SettlingIsTwoWords }
 {}
 
-/// Once all is settled no head waits that could be taken up or refused.
+/// No head waits that could be taken up or refused, whatever happened to its connection.
 pub fn no_head_waits()
     ensures { NoHeadWaits }
+{}
+
+/// Nor does an end of the input, where a head could be taken up: the connection closes instead.
+pub fn no_end_waits()
+    ensures { NoEndWaits }
+{}
+
+/// Where a connection closes for the end of its input, no head was left that could be taken up or refused.
+pub fn no_head_is_lost()
+    ensures { NoHeadIsLost }
 {}
 
 /// The worked example is reported as the README shows it.
@@ -48,9 +58,38 @@ pub fn gone_stays_gone()
 {}
 
 /// Each head that a connection took up is the one that the grammar finds at its place in all the bytes that came,
-/// whenever they came and however they were cut, and the next begins where its request ends.
+/// whatever comes later and however they were cut, and the next begins where its request ends.
 pub fn heads_are_at_their_places()
     ensures { HeadsAreAtTheirPlaces }
+{}
+
+/// What came, what was taken up, what was written and the charts of the ended requests only grow, and a cause to close
+/// stays, whatever happens.
+pub fn nothing_is_taken_back()
+    ensures { NothingIsTakenBack }
+{}
+
+/// Each request that was taken up has one chart, whatever happened to its connection: it ends once at most.
+pub fn requests_end_once()
+    ensures { RequestsEndOnce }
+{}
+
+/// Each request that was taken up is what the verdict on its head says, whatever happened to its connection: none is one
+/// that is to be refused, and each has the component and the support of the rule that serves it.
+pub fn requests_are_judged()
+    ensures { RequestsAreJudged }
+{}
+
+/// Where a connection closes as refused, the head that stands there is to be refused, and the answer that says so is the
+/// last that was written.
+pub fn refusals_are_told()
+    ensures { RefusalsAreTold }
+{}
+
+/// While a request is open whose service has not begun, a worker's turn begins it, in the component that the rule for
+/// its path names.
+pub fn turns_serve()
+    ensures { TurnsServe }
 {}
 
 /// The trace of a connection, and the reply to each of its entries, are functions of its own entries alone.

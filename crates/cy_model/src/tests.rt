@@ -14,7 +14,14 @@ fn laws_ask_for_nothing(_rt: HostRuntime) -> Result<(), Fail> {
     laws::limit_is_kept();
     laws::gone_stays_gone();
     laws::no_head_waits();
+    laws::no_end_waits();
+    laws::no_head_is_lost();
     laws::heads_are_at_their_places();
+    laws::nothing_is_taken_back();
+    laws::requests_end_once();
+    laws::requests_are_judged();
+    laws::refusals_are_told();
+    laws::turns_serve();
     laws::own_entries_decide();
     Ok(())
 }

@@ -1,16 +1,17 @@
 -- Pieces that are sent as chunks are a body by the grammar of bodies.
-use Rattle.std.proofs.Common.{◌≡◌, ℕ, zero, suc, ◌+◌, ◌*◌, ◌/◌, ◌%◌, ◌<◌, ◌≤◌, Bool, true, false, List, [], ◌∷◌, ◌++◌, length, map, codes, None, refl, sym, ap, ◌∙◌, arith, append_assoc, length-append}
-use Rattle.std.specs.Prelude.{◌&&◌, ◌==◌, nat_lt, if◌then◌else◌}
+use Rattle.std.proofs.Common.{◌≡◌, ℕ, zero, suc, ◌+◌, ◌*◌, ◌/◌, ◌%◌, ◌<◌, ◌≤◌, Bool, true, false, List, [], ◌∷◌, ◌++◌, length, map, codes, None, refl, sym, ap, subst, ◌∙◌, arith, append_assoc, length-append}
+use Rattle.std.specs.Prelude.{◌&&◌, ◌==◌, nat_lt}
 use Rattle.std.specs.List.{All, concat, flat_map, list_all}
 use Rattle.std.specs.Char.{is_digit, digit_value}
 use Rattle.std.proofs.lemmas.Bool.Decides.{nat_tests}
 use Rattle.std.proofs.lemmas.List.Elements.{All-cons, All-head, All-nil, All-tail}
 use Rattle.cy_event.specs.Answers.{crlf}
-use Rattle.cy_event.specs.AnswerModes.{chunked, hex_digit, hex_text, piece_text}
+use Rattle.cy_event.specs.AnswerModes.{chunked, hex_text, piece_text}
 use Rattle.cy_event.specs.BodyGrammar.{Chunk, ChunkedBody, IsBody, IsChunk, IsChunked, IsLine, IsTrailer, SizeLine, chunk_text, line_end, size_of}
 use Rattle.cy_event.specs.declared.framing.Framing.TheVariants as framing
 use Rattle.cy_out.specs.Laws.{content_text}
-use Rattle.cy_out.proofs.PieceLemmas.{IsPiece}
+use Rattle.cy_out.specs.Pieces.{IsPiece}
+use Rattle.cy_out.proofs.HexSizes.{glyph, one_digit_text, two_digits_text, three_digits_text, four_digits_text}
 
 -- ---- digits
 
@@ -33,13 +34,13 @@ below p (suc n) k all small =
     ] refl
 
 -- a digit stands for its number
-digit_back : (n : ℕ) → n < 16 → digit_value (hex_digit n) ≡ n
+digit_back : (n : ℕ) → n < 16 → digit_value (glyph n) ≡ n
 digit_back n small =
-    let same = below (λ k. digit_value (hex_digit k) == k) 16 n refl small in
+    let same = below (λ k. digit_value (glyph k) == k) 16 n refl small in
     grind (arith, nat_tests)
 
-digit_is : (n : ℕ) → n < 16 → is_digit (hex_digit n) 16 ≡ true
-digit_is n small = below (λ k. is_digit (hex_digit k) 16) 16 n refl small
+digit_is : (n : ℕ) → n < 16 → is_digit (glyph n) 16 ≡ true
+digit_is n small = below (λ k. is_digit (glyph k) 16) 16 n refl small
 
 -- ---- sizes
 
@@ -50,15 +51,15 @@ pub record IsHex (n : ℕ) (text : List ℕ) : Type 0 where
   pub digits : list_all (λ b. is_digit b 16) text ≡ true
   pub size : size_of text ≡ n
 
-one_digit : (n : ℕ) → n < 16 → IsHex n (hex_digit n ∷ [])
-one_digit n small = record {
+one_digit : (n a : ℕ) → a < 16 → a ≡ n → IsHex n (glyph a ∷ [])
+one_digit n a small sum = record {
   some = omega arith;
   few = omega arith;
-  digits = rw (digit_is n small) refl;
-  size = omega (arith, digit_back n small);
+  digits = rw (digit_is a small) refl;
+  size = omega (arith, digit_back a small);
 }
 
-two_digits : (n a b : ℕ) → a < 16 → b < 16 → 16 * a + b ≡ n → IsHex n (hex_digit a ∷ hex_digit b ∷ [])
+two_digits : (n a b : ℕ) → a < 16 → b < 16 → 16 * a + b ≡ n → IsHex n (glyph a ∷ glyph b ∷ [])
 two_digits n a b small smaller sum = record {
   some = omega arith;
   few = omega arith;
@@ -66,7 +67,7 @@ two_digits n a b small smaller sum = record {
   size = omega (arith, digit_back a small, digit_back b smaller);
 }
 
-three_digits : (n a b c : ℕ) → a < 16 → b < 16 → c < 16 → 16 * (16 * a + b) + c ≡ n → IsHex n (hex_digit a ∷ hex_digit b ∷ hex_digit c ∷ [])
+three_digits : (n a b c : ℕ) → a < 16 → b < 16 → c < 16 → 16 * (16 * a + b) + c ≡ n → IsHex n (glyph a ∷ glyph b ∷ glyph c ∷ [])
 three_digits n a b c fa fb fc sum = record {
   some = omega arith;
   few = omega arith;
@@ -75,7 +76,7 @@ three_digits n a b c fa fb fc sum = record {
 }
 
 four_digits : (n a b c d : ℕ) → a < 16 → b < 16 → c < 16 → d < 16 → 16 * (16 * (16 * a + b) + c) + d ≡ n
-    → IsHex n (hex_digit a ∷ hex_digit b ∷ hex_digit c ∷ hex_digit d ∷ [])
+    → IsHex n (glyph a ∷ glyph b ∷ glyph c ∷ glyph d ∷ [])
 four_digits n a b c d fa fb fc fd sum = record {
   some = omega arith;
   few = omega arith;
@@ -83,22 +84,24 @@ four_digits n a b c d fa fb fc fd sum = record {
   size = omega (arith, digit_back a fa, digit_back b fb, digit_back c fc, digit_back d fd);
 }
 
-pub size_is_hex : (n : ℕ) → n < 65536 → IsHex n (hex_text n)
-size_is_hex n small =
-    let two = hex_digit (n / 16) ∷ hex_digit (n % 16) ∷ [] in
-    let three = hex_digit (n / 256) ∷ hex_digit (n / 16 % 16) ∷ hex_digit (n % 16) ∷ [] in
-    let four = hex_digit (n / 4096) ∷ hex_digit (n / 256 % 16) ∷ hex_digit (n / 16 % 16) ∷ hex_digit (n % 16) ∷ [] in
-    elim (nat_lt n 16) as (λ v. nat_lt n 16 ≡ v → IsHex n (if v then hex_digit n ∷ [] else (if nat_lt n 256 then two else (if nat_lt n 4096 then three else four)))) [
-      | true ↦ λ t. one_digit n (grind (arith, nat_tests))
-      | false ↦ λ t. elim (nat_lt n 256) as (λ v. nat_lt n 256 ≡ v → IsHex n (if v then two else (if nat_lt n 4096 then three else four))) [
-        | true ↦ λ u. let less : n < 256 = grind (arith, nat_tests) in two_digits n (n / 16) (n % 16) (omega arith) (omega arith) (omega arith)
-        | false ↦ λ u. elim (nat_lt n 4096) as (λ v. nat_lt n 4096 ≡ v → IsHex n (if v then three else four)) [
-          | true ↦ λ w. let less : n < 4096 = grind (arith, nat_tests) in
-              three_digits n (n / 256) (n / 16 % 16) (n % 16) (omega arith) (omega arith) (omega arith) (omega arith)
-          | false ↦ λ w. four_digits n (n / 4096) (n / 256 % 16) (n / 16 % 16) (n % 16) (omega arith) (omega arith) (omega arith) (omega arith) (omega arith)
-        ] refl
-      ] refl
+-- it is below the bound, or at least it
+sides : {X : Type 0} (n bound : ℕ) → (n < bound → X) → (bound ≤ n → X) → X
+sides {X} n bound below_it above =
+    elim (nat_lt n bound) as (λ v. nat_lt n bound ≡ v → X) [
+      | true ↦ λ less. below_it (grind (arith, nat_tests))
+      | false ↦ λ not_less. above (grind (arith, nat_tests))
     ] refl
+
+pub size_is_hex : (n : ℕ) → n < 65536 → IsHex n (hex_text n)
+size_is_hex n small = sides n 16
+    (λ one. subst (IsHex n) (sym (one_digit_text n one)) (one_digit n (n % 16) (omega arith) (omega arith)))
+    (λ two. sides n 256
+    (λ less. subst (IsHex n) (sym (two_digits_text n two less)) (two_digits n (n / 16 % 16) (n % 16) (omega arith) (omega arith) (omega arith)))
+    (λ three. sides n 4096
+    (λ less. subst (IsHex n) (sym (three_digits_text n three less))
+    (three_digits n (n / 256 % 16) (n / 16 % 16) (n % 16) (omega arith) (omega arith) (omega arith) (omega arith)))
+    (λ four. subst (IsHex n) (sym (four_digits_text n four small))
+    (four_digits n (n / 4096) (n / 256 % 16) (n / 16 % 16) (n % 16) (omega arith) (omega arith) (omega arith) (omega arith) (omega arith)))))
 
 -- ---- chunks
 

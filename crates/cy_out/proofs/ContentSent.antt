@@ -131,7 +131,7 @@ push_sends head at (b ∷ more) mode closes got marks bytes a there =
 
 -- ---- acts
 
-nothing_waits : (committed : Bool) (waiting : List ℕ) → not committed || not (is_empty waiting) ≡ false → waiting ≡ []
+pub nothing_waits : (committed : Bool) (waiting : List ℕ) → not committed || not (is_empty waiting) ≡ false → waiting ≡ []
 nothing_waits committed [] idle = refl
 nothing_waits true (b ∷ waiting) idle = cc
 nothing_waits false (b ∷ waiting) idle = cc

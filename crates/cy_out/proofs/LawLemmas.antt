@@ -1,13 +1,13 @@
 -- The laws of answers.
 use Rattle.std.proofs.Common.{◌≡◌, ℕ, zero, suc, ◌+◌, ◌≤◌, Bool, true, false, List, [], ◌∷◌, ◌++◌, length, take, Option, None, Some, refl, sym, ap, subst, ◌∙◌, arith}
-use Rattle.std.specs.Prelude.{not, ◌||◌, ◌&&◌, ◌==◌, if◌then◌else◌}
+use Rattle.std.specs.Prelude.{is_none, not, ◌||◌, ◌&&◌, ◌==◌, if◌then◌else◌}
 use Rattle.std.proofs.lemmas.Bool.Decides.{nat_tests}
 use Rattle.std.proofs.lemmas.List.{append-nil}
 use Rattle.cy_event.specs.Answers.{Answer, close, keep_alive, silent}
-use Rattle.cy_event.specs.AnswerModes.{chunked, connection_of, content_mode, counted, has_no_content, is_none, until_close, void}
+use Rattle.cy_event.specs.AnswerModes.{chunked, closes, connection_of, content_mode, counted, has_no_content, mode_of, until_close, void}
 use Rattle.cy_event.specs.Answering.{Answering, Sending, Took, aborted, after_finish, can_cut, can_take, cut, cut_room, has_to_cut, is_committed, is_full, more_by, output_limit, passes_length, push_byte, push_bytes, with_room}
-use Rattle.cy_out.specs.Exchanges.{Act, Exchange, after_act, after_acts, flushes, receives, writes, written}
-use Rattle.cy_out.specs.Laws.{AbortedGainsNothing, CutsFindRoom, HeadsSayTheMode, IsGreatest, NoContentIsUnframed, WritesTakeTheMost}
+use Rattle.cy_out.specs.Exchanges.{Act, Exchange, after_act, flushes, receives, writes}
+use Rattle.cy_out.specs.Laws.{ClosesAreSaid, CutsFindRoom, HeadsSayTheMode, IsGreatest, NoContentIsUnframed, WritesTakeTheMost, says_close}
 use Rattle.cy_out.proofs.ContentSent.{received_more}
 use Rattle.cy_out.proofs.Pushes.{push_none, push_one}
 
@@ -59,9 +59,9 @@ no_content_is_unframed asked status n none =
 -- ---- answers that are given up
 
 -- nothing more is written
-record StaysVoid (closes : Bool) (got bytes : List ℕ) (a : Answering) : Type 0 where
-  commit : a.sending.commit ≡ Some (record { mode = void; closes = closes })
-  all : got ++ a.output ≡ bytes
+pub record StaysVoid (closes : Bool) (got bytes : List ℕ) (a : Answering) : Type 0 where
+  pub commit : a.sending.commit ≡ Some (record { mode = void; closes = closes })
+  pub all : got ++ a.output ≡ bytes
 
 -- the same answer, written with its commit
 abbrev voided : Bool → Answering → Answering
@@ -96,7 +96,7 @@ push_stays head at (b ∷ more) closes got bytes a stays =
       | false ↦ stays
     ]
 
-act_stays : (head : Answer) (act : Act) (closes : Bool) (bytes : List ℕ) (x : Exchange) → StaysVoid closes x.received bytes x.answering
+pub act_stays : (head : Answer) (act : Act) (closes : Bool) (bytes : List ℕ) (x : Exchange) → StaysVoid closes x.received bytes x.answering
     → StaysVoid closes (after_act head act x).received bytes (after_act head act x).answering
 act_stays head (writes more at) closes bytes x stays =
     let a = x.answering in
@@ -113,33 +113,20 @@ act_stays head (flushes at) closes bytes x stays =
 act_stays head (receives n) closes bytes x stays =
     record { commit = stays.commit; all = received_more x.received x.answering.output n ∙ stays.all }
 
-acts_stay : (head : Answer) (acts : List Act) (closes : Bool) (bytes : List ℕ) (x : Exchange) → StaysVoid closes x.received bytes x.answering
-    → StaysVoid closes (after_acts head acts x).received bytes (after_acts head acts x).answering
-acts_stay head [] closes bytes x stays = stays
-acts_stay head (act ∷ acts) closes bytes x stays = acts_stay head acts closes bytes (after_act head act x) (act_stays head act closes bytes x stays)
-
-finish_adds_none : (head : Answer) (at : ℕ) (closes : Bool) (got bytes : List ℕ) (a : Answering) → StaysVoid closes got bytes a
+pub finish_adds_none : (head : Answer) (at : ℕ) (closes : Bool) (got bytes : List ℕ) (a : Answering) → StaysVoid closes got bytes a
     → got ++ (after_finish head at a).output ≡ bytes
 finish_adds_none head at closes got bytes a stays =
     subst (λ (x : Answering). got ++ (after_finish head at x).output ≡ bytes) (sym (is_voided closes a stays.commit))
     (ap (λ (xs : List ℕ). got ++ xs) (append-nil (a.output ++ []) ∙ append-nil a.output) ∙ stays.all)
 
 -- an answer that is given up is void
-aborted_is_void : (s : Sending) → is_committed s ≡ true → (closes : Bool) × ((aborted s).commit ≡ Some (record { mode = void; closes = closes }))
+pub aborted_is_void : (s : Sending) → is_committed s ≡ true → (closes : Bool) × ((aborted s).commit ≡ Some (record { mode = void; closes = closes }))
 aborted_is_void s committed =
     elim s.commit as (λ c. (elim c as (λ _. Bool) [ None ↦ false | Some k ↦ true ]) ≡ true
     → (closes : Bool) × ((elim c as (λ _. Sending) [ None ↦ s | Some k ↦ record s { commit = Some (record { mode = void; closes = k.closes }) } ]).commit ≡ Some (record { mode = void; closes = closes }))) [
       | None ↦ λ none. cc
       | Some k ↦ λ some. (k.closes, refl)
     ] committed
-
-pub aborted_gains_nothing : AbortedGainsNothing
-aborted_gains_nothing head acts at x committed =
-    let is_void = aborted_is_void x.answering.sending committed in
-    let given_up : Exchange = record x { answering = record x.answering { sending = aborted x.answering.sending } } in
-    let last = after_acts head acts given_up in
-    let begins : StaysVoid is_void.0 given_up.received (written x) given_up.answering = record { commit = is_void.1; all = refl } in
-    finish_adds_none head at is_void.0 last.received (written x) last.answering (acts_stay head acts is_void.0 (written x) given_up begins)
 
 -- ---- what a head says of the mode
 
@@ -168,3 +155,11 @@ heads_say_the_mode asked status n = record {
   told_length = length_said asked.is_head (has_no_content status) asked.minor n;
   connection = λ until. ap (connection_of asked) until ∙ close_said asked.keep asked.minor;
 }
+
+close_is_said : (closing new : Bool) → closing ≡ says_close (if closing then close else (if new then silent else keep_alive))
+close_is_said true new = refl
+close_is_said false true = refl
+close_is_said false false = refl
+
+pub closes_are_said : ClosesAreSaid
+closes_are_said head n asked = close_is_said (closes asked (mode_of asked head.status n)) (asked.minor == 1)

@@ -7,8 +7,8 @@ use Rattle.std.proofs.lemmas.List.Folds.{concat-append}
 use Rattle.std.proofs.Math.Seq.{take-append_seam, drop-append_seam}
 use Rattle.cy_event.specs.Answers.{content_buffer}
 use Rattle.cy_event.specs.AnswerModes.{Mode, chunked, counted, piece_text, until_close, void}
-use Rattle.cy_out.specs.Laws.{PiecesAreTheContent}
-use Rattle.cy_out.specs.Pieces.{Mark, content_put, first_pieces, flushed, piece_count, pieces_behind, put, run_pieces}
+use Rattle.cy_out.specs.Laws.{PiecesAreTheContent, PiecesHaveBytes}
+use Rattle.cy_out.specs.Pieces.{IsPiece, Mark, content_put, first_pieces, flushed, piece_count, pieces_behind, put, run_pieces}
 
 -- ---- a piece in front
 
@@ -47,10 +47,6 @@ run_text mode (b ∷ run) few = ap (flat_map (piece_text mode)) (one_piece b run
 
 -- ---- how large pieces are
 
-pub record IsPiece (p : List ℕ) : Type 0 where
-  pub some : 1 ≤ length p
-  pub few : length p ≤ content_buffer
-
 first_sizes : (n : ℕ) (run : List ℕ) → n * content_buffer < length run + content_buffer → All IsPiece (first_pieces n run)
 first_sizes zero run many = All-nil IsPiece
 first_sizes (suc n) run many =
@@ -62,10 +58,10 @@ first_sizes (suc n) run many =
 run_sizes : (run : List ℕ) → All IsPiece (run_pieces run)
 run_sizes run = first_sizes (piece_count (length run)) run (omega arith)
 
-pub pieces_sizes : (run : List ℕ) (marks : List Mark) → All IsPiece (pieces_behind run marks)
-pieces_sizes run [] = run_sizes run
-pieces_sizes run (put bytes ∷ marks) = pieces_sizes (run ++ bytes) marks
-pieces_sizes run (flushed ∷ marks) = All-append IsPiece (run_pieces run) (pieces_behind [] marks) (run_sizes run) (pieces_sizes [] marks)
+pub pieces_have_bytes : PiecesHaveBytes
+pieces_have_bytes run [] = run_sizes run
+pieces_have_bytes run (put bytes ∷ marks) = pieces_have_bytes (run ++ bytes) marks
+pieces_have_bytes run (flushed ∷ marks) = All-append IsPiece (run_pieces run) (pieces_behind [] marks) (run_sizes run) (pieces_have_bytes [] marks)
 
 -- ---- what the pieces hold
 

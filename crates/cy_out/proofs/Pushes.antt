@@ -48,7 +48,7 @@ push_none head at (b ∷ bytes) a stuck =
     ap (λ (t : Bool). elim t [ true ↦ more_by 1 (push_bytes head at bytes (push_byte head at b a)) | false ↦ record { count = 0; after = a } ]) stuck
 
 -- one byte, where the buffer has room
-push_into_room : (head : Answer) (at b : ℕ) (bytes : List ℕ) (a : Answering) → length a.sending.waiting < 8192
+pub push_into_room : (head : Answer) (at b : ℕ) (bytes : List ℕ) (a : Answering) → length a.sending.waiting < 8192
     → push_bytes head at (b ∷ bytes) a ≡ more_by 1 (push_bytes head at bytes (filled (b ∷ []) a))
 push_into_room head at b bytes a few =
     let takes : can_take a ≡ true = ap (λ (t : Bool). not t || can_cut a.output) (not_full a few) in

@@ -11,7 +11,7 @@ use Rattle.cy_respond.proofs.HeadSizes.{head_size}
 use Rattle.cy_respond.proofs.LineLemmas.{length_of_lines}
 use Rattle.cy_out.specs.Exchanges.{Act, Exchange, after_act, after_acts, flushes, receives, writes}
 use Rattle.cy_out.specs.Laws.{BeginningsFindRoom, FinishesFindRoom, IsKept, IsWithinLimits}
-use Rattle.cy_out.specs.Sent.{CanFinish, head_room}
+use Rattle.cy_out.specs.Kept.{CanFinish, head_room}
 use Rattle.cy_out.proofs.ChunksWritten.{size_is_hex}
 use Rattle.cy_out.proofs.ContentSent.{room_is}
 
@@ -33,7 +33,7 @@ length_size (Some n) small =
     let name = codes "Content-Length: " in
     omega (arith, length-append (name ++ decimal n) crlf, length-append name (decimal n))
 
-status_size : (status : ℕ) → is_status status ≡ true → length (decimal status) ≤ 3
+pub status_size : (status : ℕ) → is_status status ≡ true → length (decimal status) ≤ 3
 status_size status known =
     let small : status ≤ 599 = grind (arith, nat_tests) in
     length-decimal-le 3 status (omega arith) (omega arith) (omega arith)
@@ -99,9 +99,9 @@ is_headed head at known a within small =
     ] refl
 
 -- what is kept
-record Fits (a : Answering) : Type 0 where
-  kept : IsKept a.sending
-  finish : CanFinish a
+pub record Fits (a : Answering) : Type 0 where
+  pub kept : IsKept a.sending
+  pub finish : CanFinish a
 
 whole_is_small : (left : Option ℕ) (waiting : ℕ) → unwrap_or left 0 + waiting < 2 ^ 64 → unwrap_or (option_map (λ n. n + waiting) left) 0 < 2 ^ 64
 whole_is_small None waiting small = omega arith
@@ -167,7 +167,7 @@ flushed_is_cut : (some room : Bool) → some && room ≡ true → room ≡ true
 flushed_is_cut true room both = both
 flushed_is_cut false room both = cc
 
-act_fits : (head : Answer) (act : Act) (x : Exchange) → IsWithinLimits head → Fits x.answering → Fits (after_act head act x).answering
+pub act_fits : (head : Answer) (act : Act) (x : Exchange) → IsWithinLimits head → Fits x.answering → Fits (after_act head act x).answering
 act_fits head (writes more at) x within f =
     let a = x.answering in
     elim (passes_length a.sending (length more)) as (λ v. Fits (if v then a else (push_bytes head at more a).after)) [
@@ -212,7 +212,7 @@ whole_is_kept : (left : Option ℕ) (waiting : ℕ) → unwrap_or left 0 + waiti
 whole_is_kept None waiting small = omega arith
 whole_is_kept (Some l) waiting small = small
 
-finish_fits : (head : Answer) (at : ℕ) (a : Answering) → IsWithinLimits head → Fits a → length (after_finish head at a).output ≤ output_limit
+pub finish_fits : (head : Answer) (at : ℕ) (a : Answering) → IsWithinLimits head → Fits a → length (after_finish head at a).output ≤ output_limit
 finish_fits head at a within f =
     let known : Option ℕ = Some (whole_length_of a.sending) in
     let small : unwrap_or known 0 < 2 ^ 64 = whole_is_kept a.sending.left (length a.sending.waiting) f.kept.set_length in

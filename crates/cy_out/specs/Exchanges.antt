@@ -1,7 +1,7 @@
 -- An answer and its client, over any list of writes, flushes and bytes that the client takes.
-use Rattle.std.specs.Prelude.{ℕ, not, ◌&&◌, if◌then◌else◌, List, [], ◌∷◌, ◌++◌, length, take, drop}
+use Rattle.std.specs.Prelude.{ℕ, Bool, not, ◌&&◌, if◌then◌else◌, List, [], ◌∷◌, ◌++◌, length, take, drop, Option, None, Some, unwrap_or}
 use Rattle.cy_event.specs.Answers.{Answer}
-use Rattle.cy_event.specs.Answering.{Answering, after_finish, after_flush, after_write, can_cut, has_to_cut, passes_length, push_bytes}
+use Rattle.cy_event.specs.Answering.{Answering, after_finish, after_flush, after_write, can_cut, has_to_cut, is_committed, passes_length, push_bytes}
 use Rattle.cy_out.specs.Pieces.{Mark, flushed, put}
 
 -- what the client got, and the answer with what waits for the client
@@ -29,6 +29,26 @@ after_acts head (act ∷ acts) x = after_acts head acts (after_act head act x)
 
 abbrev pub finished : Answer → ℕ → Exchange → Exchange
 finished head at x = record x { answering = after_finish head at x.answering }
+
+-- ---- the head
+
+-- the moment of an act; what the client takes has none
+abbrev pub moment_of : Act → Option ℕ
+moment_of (writes bytes at) = Some at
+moment_of (flushes at) = Some at
+moment_of (receives n) = None
+
+abbrev pub is_out : Exchange → Bool
+is_out x = is_committed x.answering.sending
+
+-- The moment that the head of an answer has of which nothing is out: that of the first act behind which the head is
+-- out, else that of the finish.
+abbrev pub head_moment : Answer → List Act → ℕ → Exchange → ℕ
+head_moment head [] at x = at
+head_moment head (act ∷ acts) at x =
+    if is_out (after_act head act x) then unwrap_or (moment_of act) at else head_moment head acts at (after_act head act x)
+
+-- ---- what was written
 
 -- all bytes that were written to the client
 abbrev pub written : Exchange → List ℕ

@@ -1,6 +1,8 @@
 pub mod Told
-pub mod Sent
+pub mod Kept
 pub mod Pushing
 pub mod Pieces
 pub mod Exchanges
+pub mod Calls
 pub mod Laws
+pub mod Made

@@ -27,6 +27,12 @@ pieces_behind run [] = run_pieces run
 pieces_behind run (put bytes ∷ marks) = pieces_behind (run ++ bytes) marks
 pieces_behind run (flushed ∷ marks) = run_pieces run ++ pieces_behind [] marks
 
+-- Those that are cut before the end: all but the last of the run behind the last flush.
+abbrev pub cut_pieces : List ℕ → List Mark → List (List ℕ)
+cut_pieces run [] = first_pieces (piece_count (length run) - 1) run
+cut_pieces run (put bytes ∷ marks) = cut_pieces (run ++ bytes) marks
+cut_pieces run (flushed ∷ marks) = run_pieces run ++ cut_pieces [] marks
+
 -- the runs of content, where this one stands behind the last flush
 abbrev pub runs_behind : List ℕ → List Mark → List (List ℕ)
 runs_behind run [] = run ∷ []
@@ -38,6 +44,11 @@ abbrev pub content_put : List Mark → List ℕ
 content_put [] = []
 content_put (put bytes ∷ marks) = bytes ++ content_put marks
 content_put (flushed ∷ marks) = content_put marks
+
+-- a piece of 1 to 8,192 bytes
+pub record IsPiece (piece : List ℕ) : Type 0 where
+  pub some : 1 ≤ length piece
+  pub few : length piece ≤ content_buffer
 
 -- ---- cuts
 

@@ -3,7 +3,7 @@ use Rattle.std.specs.Prelude.{◌≡◌, ℕ, ◌≤◌, false, List, length, dr
 use Rattle.cy_event.specs.Answers.{Answer}
 use Rattle.cy_event.specs.Answering.{Sending, more_by, passes_length, push_bytes}
 use Rattle.cy_rings.specs.Rings.{Rings}
-use Rattle.cy_out.specs.Sent.{CanFinish, answering_with}
+use Rattle.cy_out.specs.Kept.{CanFinish, answering_with}
 
 -- so many of the bytes were taken from where `before` and `rings` stood, and the rest goes on from here
 pub record IsPushed (head : Answer) (at : ℕ) (bytes : List ℕ) (before : Sending) (rings : Rings) (taken : ℕ) (now : Sending) (left : Rings) : Type 0 where

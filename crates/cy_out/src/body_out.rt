@@ -72,7 +72,7 @@ impl Model for BodyOut {
 
     ghost Value = { Sending };
 
-    ghost use Rattle.cy_out.specs.Sent.{sending_of, KeepsBuffer};
+    ghost use Rattle.cy_out.specs.Kept.{sending_of, KeepsBuffer};
 
     ghost view = { sending_of };
 
@@ -82,7 +82,7 @@ impl Model for BodyOut {
 impl BodyOut {
     ghost use Rattle.cy_event.specs.Answering.{aborted, after_finish, after_flush, after_length, after_write, beginning, can_take, closing, cut, emptied, error_head, flush_reply, has_closed, has_to_cut, idle, is_committed, is_full, is_short, length_reply, mode_in, passes_length, push_bytes, set_length_of, whole_length_of, with_bytes, with_error, with_head, with_piece, with_room, write_reply};
     ghost use Rattle.cy_respond.specs.Fields.{is_status};
-    ghost use Rattle.cy_out.specs.Sent.{CanFinish, answering_with, head_room};
+    ghost use Rattle.cy_out.specs.Kept.{CanFinish, answering_with, head_room};
 
     /// No answer yet.
     ///

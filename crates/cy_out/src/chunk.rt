@@ -1,6 +1,7 @@
 //! A piece of content as a chunk.
-ghost use Rattle.std.specs.Prelude.{◌≡◌, ◌+◌, ◌<◌, ◌≤◌, ◌++◌, length};
-ghost use Rattle.cy_event.specs.AnswerModes.{chunk_text, hex_digit, hex_text};
+ghost use Rattle.std.specs.Prelude.{◌≡◌, ◌+◌, ◌<◌, ◌≤◌, ◌++◌, length, false};
+ghost use Rattle.cy_event.specs.AnswerModes.{chunk_text, hex_text};
+ghost use Rattle.std.specs.Fmt.{digit_glyph};
 ghost use Rattle.cy_rings.specs.declared.kit.TheConstants.{OUT_CAPACITY};
 
 use cy_rings::ConnKit;
@@ -32,6 +33,7 @@ pub(crate) fn put_chunk(bytes: &[u8], kit: &mut ConnKit)
 }
 
 /// Writes a size in hexadecimal.
+#[tactic(auto, using(crate::proofs::HexSizes::one_digit_text, crate::proofs::HexSizes::two_digits_text, crate::proofs::HexSizes::three_digits_text, crate::proofs::HexSizes::four_digits_text,))]
 fn put_size(size: usize, kit: &mut ConnKit)
     requires few { size ≤ CHUNK_LIMIT }
     requires room { length kit.old.output + 4 ≤ OUT_CAPACITY }
@@ -59,7 +61,7 @@ fn put_size(size: usize, kit: &mut ConnKit)
 /// The digit of a number below 16.
 fn digit(n: usize) -> u8
     requires { n < 16 }
-    ensures { result ≡ hex_digit n }
+    ensures { result ≡ digit_glyph false n }
 {
     HEX_DIGITS[n]
 }

@@ -1,3 +1,5 @@
+mod calls;
+
 use super::*;
 use cy_event::Reply;
 use cy_respond::RespHead;
@@ -297,15 +299,60 @@ fn a_close_that_is_asked_for(rt: HostRuntime) -> Result<(), Fail> {
 #[test]
 fn laws_hold() {
     laws::writes_take_the_most();
-    laws::head_is_framed_as_get();
     laws::no_content_is_unframed();
     laws::aborted_gains_nothing();
     laws::pieces_are_the_content();
+    laws::pieces_have_bytes();
     laws::pieces_end_at_cuts();
     laws::pieces_follow_the_head();
     laws::answers_are_whole();
+    laws::all_calls_make_one_answer();
+    laws::uncut_answers_are_one_text();
+    laws::writes_fill_the_buffer();
+    laws::head_is_framed_as_get();
+    laws::all_calls_frame_alike();
     laws::clients_read_the_content();
+    laws::all_calls_are_read();
     laws::heads_say_the_mode();
     laws::finishes_find_room();
     laws::beginnings_find_room();
+    laws::all_calls_find_room();
+}
+
+#[test]
+fn each_call_of_the_laws(rt: HostRuntime) -> Result<(), Fail> {
+    let mut body = BodyOut::new(rt.alloc())?;
+    let mut head = RespHead::new(rt.alloc())?;
+    let mut kit = ConnKit::new(rt.alloc())?;
+    body.begin(&GET);
+    calls::set_status(201, &body, &mut head);
+    calls::add_header(b"X", b"y", &body, &mut head);
+    calls::reset(&mut body, &mut head);
+    calls::put_error(404, &mut body, &mut head);
+    calls::put_error(199, &mut body, &mut head);
+    calls::set_status(405, &body, &mut head);
+    calls::add_header(b"Allow", b"GET", &body, &mut head);
+    calls::set_length(12, &mut body);
+    calls::abort(&mut body);
+    calls::set_close(&mut body);
+    calls::write(b"ab", 0, &mut body, &head, &mut kit);
+    calls::flush(0, &mut body, &head, &mut kit);
+    // the head is out
+    calls::set_status(200, &body, &mut head);
+    calls::add_header(b"X", b"y", &body, &mut head);
+    calls::set_length(20, &mut body);
+    calls::reset(&mut body, &mut head);
+    calls::put_error(500, &mut body, &mut head);
+    calls::abort(&mut body);
+    calls::write(b"", 0, &mut body, &head, &mut kit);
+    calls::flush(0, &mut body, &head, &mut kit);
+    assert_eq!(rt; calls::receive(9, &mut kit), 9);
+    let text = format!(in rt.alloc();
+        "405 \r\nContent-Type: text/plain\r\nAllow: GET\r\nContent-Length: 12\r\n{DATE}Connection: close\r\n\r\nError 404\nab"
+    )?;
+    assert_eq!(rt; kit.out_front(), text.as_bytes());
+    assert_eq!(rt; calls::receive(1000, &mut kit), text.len());
+    assert_eq!(rt; kit.out_len(), 0);
+    assert_eq!(rt; head.status(), 405);
+    Ok(())
 }

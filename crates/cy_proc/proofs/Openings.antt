@@ -29,7 +29,7 @@ use Rattle.cy_proc.specs.ProcessorAnswers.{Serves, ServesAfter, TakesUp, ended_i
 use Rattle.cy_proc.specs.ProcessorChanges.{due_at, due_of_head, line_with, processor_with, with_request}
 use Rattle.cy_proc.specs.Processors.{IsEndedRequest, IsIdle, ProcessorParts, StandsAt, StandsFor, fresh_processor, request_folds, table_of}
 use Rattle.cy_proc.specs.declared.processor.Stage.TheVariants as stage
-use Rattle.cy_proc.proofs.Lines.{began_stands, over_stands, refused_stands, rest_moment, rest_stands}
+use Rattle.cy_proc.proofs.Lines.{began_stands, marks_at, over_stands, refused_stands, rest_moment, rest_stands}
 use Rattle.cy_proc.proofs.Requests.{charts_same, ended_serves, over_ends, rested_same, stands_same}
 
 -- ---- what the code does
@@ -136,7 +136,7 @@ refusal_taken limits T status to_head l idle none s =
       moved = refl;
       follows = record {
         serves = record {
-          line = rest_stands limits m R (after_refusal status to_head l) (refused_stands status to_head T l none s);
+          line = rest_stands limits m R (after_refusal status to_head l) (omega arith) (refused_stands status to_head T l none s);
           processor = stands_same R (rested limits m R) (fresh_processor limits) same (idle, refl);
         };
         charts = charts_same T (rested limits m R) (fresh_processor limits) (record { folds = same.folds; charts = same.charts }) refl;
@@ -163,17 +163,18 @@ request_taken limits T r l place front s =
       moved = refl;
       follows = record {
         serves = record {
-          line = rest_stands limits m R (after_begin r.size r.go_on l) (began_stands r T l place (size_within limits T r front) s);
+          line = rest_stands limits m R (after_begin r.size r.go_on l) (omega arith) (began_stands r T l place (size_within limits T r front) s);
           processor = stands_same R (rested limits m R) q same stands;
         };
         charts = ap (map chart_of) same.charts ∙ sym (append-nil (ended_items T));
       };
     }
 
-error_mark : (m status : ℕ) (T : Trace) (l : LineParts) → Represents T l → Represents ((m, error_answer status) ∷ T) l
-error_mark m status T l s = record {
+error_mark : (status : ℕ) (T : Trace) (l : LineParts) → Represents T l → Represents ((l.moment, error_answer status) ∷ T) l
+error_mark status T l s = record {
   same = s.same;
   sound = record { consumed_came = s.sound.consumed_came; took_written = s.sound.took_written; whole = s.sound.whole };
+  none_later = marks_at (error_answer status ∷ []) T l s;
 }
 
 not_found_taken : (limits : Limits) (T : Trace) (r : TakenUp) (l : LineParts) → r.place ≡ consumed T → front_of limits T ≡ found r.size r.head → cause_of T ≡ None → Represents T l → Taken limits T (not_found r) l (after_rest limits (after_end_of r.keep r.head.minor (error_answer_of not_found_status) (after_begin r.size r.go_on l))) (with_request stage.Over r (fresh_processor limits))
@@ -183,7 +184,7 @@ not_found_taken limits T r l place front none s =
     let R : Trace = with_marks m (end_marks_by r.keep None) S in
     let q : ProcessorParts = with_request stage.Over r (fresh_processor limits) in
     let k : LineParts = after_begin r.size r.go_on l in
-    let begun : Represents S k = error_mark m not_found_status ((m, began r) ∷ T) k (began_stands r T l place (size_within limits T r front) s) in
+    let begun : Represents S k = error_mark not_found_status ((m, began r) ∷ T) k (began_stands r T l place (size_within limits T r front) s) in
     let line : Represents R (after_end_of r.keep r.head.minor (error_answer_of not_found_status) k) =
     subst (λ (c : Option CloseCause). Represents (with_marks m (end_marks_by r.keep c) S) (after_end_of r.keep r.head.minor (error_answer_of not_found_status) k)) none
     (over_stands S k begun) in
@@ -199,7 +200,7 @@ not_found_taken limits T r l place front none s =
     record {
       marks = began r ∷ error_answer not_found_status ∷ end_marks_by r.keep None;
       moved = refl;
-      follows = ended_serves limits m T R (after_end_of r.keep r.head.minor (error_answer_of not_found_status) k) q [] refl stands refl ends.charts line;
+      follows = ended_serves limits m T R (after_end_of r.keep r.head.minor (error_answer_of not_found_status) k) q [] refl stands refl ends.charts (omega arith) line;
     }
 
 -- whatever is due, but for nothing

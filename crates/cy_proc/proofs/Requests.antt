@@ -1,5 +1,5 @@
 -- The parts that follow each thing that happens to a request stand for the trace that follows it.
-use Rattle.std.proofs.Common.{◌≡◌, ◌≤◌, ℕ, Bool, true, false, not, ◌&&◌, cond, leb, List, [], ◌∷◌, ◌++◌, length, map, take, max, Option, Some, None, is_some, is_none, refl, sym, ap, ◌∙◌, subst, arith, length-take, ◌==◌, ◌||◌, if◌then◌else◌}
+use Rattle.std.proofs.Common.{◌≡◌, ◌≤◌, ℕ, Bool, true, false, not, ◌&&◌, cond, leb, List, [], ◌∷◌, ◌++◌, length, map, take, Option, Some, None, is_some, is_none, refl, sym, ap, ◌∙◌, subst, arith, length-take, ◌==◌, ◌||◌, if◌then◌else◌}
 use Rattle.std.proofs.lemmas.Bool.{and_left, eq-eqb}
 use Rattle.std.proofs.lemmas.List.{append-nil, map-append, take-take}
 use Rattle.cy_event.specs.declared.limits.Limits.{Limits}
@@ -34,7 +34,7 @@ use Rattle.cy_proc.specs.LineChanges.{after_end_of, after_rest, after_told, at_m
 use Rattle.cy_proc.specs.ProcessorAnswers.{Answers, Serves, ServesAfter, ended_items}
 use Rattle.cy_proc.specs.ProcessorChanges.{after_job, after_return, after_write, has_no_room, job_at, line_returned, owed_at, write_reply, write_room}
 use Rattle.cy_proc.specs.Processors.{IsEndedRequest, ProcessorParts, RequestFolds, folds_with, service_calls, StandsAt, StandsFor, is_open_at, over_charts, over_charts_at, request_folds}
-use Rattle.cy_proc.proofs.Lines.{at_another, over_stands, quiet_by, rest_moment, rest_stands, told_from}
+use Rattle.cy_proc.proofs.Lines.{marks_at, moved_stands, over_stands, quiet_by, rest_moment, rest_stands, told_from}
 
 -- ---- resting
 
@@ -108,25 +108,26 @@ serves_same T R l p o same s line = record {
 
 pub event_answers : (limits : Limits) (at : ℕ) (e : Event) (b : List ℕ) (T : Trace) (old moved new : LineParts) (p : ProcessorParts) (r : Reply) → is_open_at p.stage ≡ true → Serves T old p → moved ≡ at_moment at old → r ≡ told_answer e b moved → new ≡ after_told limits e b moved → Answers T (reply_to_event T e b) (rested_event limits new.moment T e b) r new p
 event_answers limits at e b T old moved new p r o s later replied parts =
-    let told = told_from limits new.moment at e b T old moved new r s.line later replied parts in
+    let told = told_from limits at e b T old moved new r s.line later replied parts in
     record {
       reply = told.reply;
       after = serves_same T (rested_event limits new.moment T e b) new p o (event_same limits new.moment e b T) s.processor told.stands;
     }
 
 -- a connection's line isn't touched by the marks of a callback that begins
-began_job : (t : ℕ) (j : Job) (T : Trace) (l : LineParts) → Represents T l → Represents ((t, called call.Run None) ∷ (t, started j) ∷ T) l
-began_job t j T l s = record {
+began_job : (j : Job) (T : Trace) (l : LineParts) → Represents T l → Represents ((l.moment, called call.Run None) ∷ (l.moment, started j) ∷ T) l
+began_job j T l s = record {
   same = s.same;
   sound = record { consumed_came = s.sound.consumed_came; took_written = s.sound.took_written; whole = s.sound.whole };
+  none_later = marks_at (started j ∷ called call.Run None ∷ []) T l s;
 }
 
 -- the callback that is owed begins
-job_stands : (st : Stage) (m : ℕ) (T : Trace) (l : LineParts) (p : ProcessorParts) → p.stage ≡ st → is_open_at st ≡ true → StandsAt st (request_folds T) p → Represents T l → ServesAfter T (with_marks m (job_marks (owed_at st p.part)) T) l (after_job (owed_at st p.part) p)
-job_stands stage.Free m T l p at o s line = cc
-job_stands stage.Owed m T l p at o s line = record {
+job_stands : (st : Stage) (T : Trace) (l : LineParts) (p : ProcessorParts) → p.stage ≡ st → is_open_at st ≡ true → StandsAt st (request_folds T) p → Represents T l → ServesAfter T (with_marks l.moment (job_marks (owed_at st p.part)) T) l (after_job (owed_at st p.part) p)
+job_stands stage.Free T l p at o s line = cc
+job_stands stage.Owed T l p at o s line = record {
   serves = record {
-    line = began_job m (job.Service p.part) T l line;
+    line = began_job (job.Service p.part) T l line;
     processor = record {
       request = s.request;
       keeps = record {
@@ -139,8 +140,8 @@ job_stands stage.Owed m T l p at o s line = record {
   };
   charts = sym (append-nil (ended_items T));
 }
-job_stands stage.Serving m T l p at o s line = serves_same T T l p (ap is_open_at at) (record { folds = refl; charts = refl }) (subst (λ (st : Stage). StandsAt st (request_folds T) p) (sym at) s) line
-job_stands stage.Over m T l p at o s line = cc
+job_stands stage.Serving T l p at o s line = serves_same T T l p (ap is_open_at at) (record { folds = refl; charts = refl }) (subst (λ (st : Stage). StandsAt st (request_folds T) p) (sym at) s) line
+job_stands stage.Over T l p at o s line = cc
 
 -- the callback that is owed is the one that the trace owes
 owed_is : (st : Stage) (T : Trace) (p : ProcessorParts) → StandsAt st (request_folds T) p → owed_at st p.part ≡ next_job T
@@ -163,8 +164,8 @@ turn_answers limits at T old new p q r o s later replied parts =
     let trace : rested_turn limits m T ≡ with_marks m (job_marks (job_at p)) T =
     ap (λ (w : Option Job). with_marks m (job_marks w) (rested limits m T)) owed
     ∙ ap (with_marks m (job_marks (job_at p))) rests in
-    let line = subst (Represents T) (sym later) (at_another T old (max old.moment at) s.line) in
-    let stands = job_stands p.stage m T new p refl o s.processor line in
+    let line = moved_stands at T old new s.line later in
+    let stands = job_stands p.stage T new p refl o s.processor line in
     record {
       reply = replied ∙ sym (ap job_reply owed);
       after = subst (λ (R : Trace). ServesAfter T R new q) (sym trace) (subst (λ (k : ProcessorParts). ServesAfter T (with_marks m (job_marks (job_at p)) T) new k) (sym parts) stands);
@@ -173,14 +174,16 @@ turn_answers limits at T old new p q r o s later replied parts =
 -- ---- acts
 
 -- content was put
-put_mark : (t : ℕ) (b : List ℕ) (T : Trace) (l : LineParts) → Represents T l → Represents ((t, put b) ∷ T) l
-put_mark t b T l s = record {
+put_mark : (b : List ℕ) (T : Trace) (l : LineParts) → Represents T l → Represents ((l.moment, put b) ∷ T) l
+put_mark b T l s = record {
   same = s.same;
   sound = record { consumed_came = s.sound.consumed_came; took_written = s.sound.took_written; whole = s.sound.whole };
+  none_later = marks_at (put b ∷ []) T l s;
 }
 
-put_stands : (limits : Limits) (m : ℕ) (b : List ℕ) (T : Trace) (l : LineParts) (p : ProcessorParts) → p.stage ≡ stage.Serving → StandsAt stage.Serving (request_folds T) p → Represents T l → ServesAfter T (rested limits m ((m, put b) ∷ T)) l (record p { content = p.content ++ b })
-put_stands limits m b T l p at s line =
+put_stands : (limits : Limits) (b : List ℕ) (T : Trace) (l : LineParts) (p : ProcessorParts) → p.stage ≡ stage.Serving → StandsAt stage.Serving (request_folds T) p → Represents T l → ServesAfter T (rested limits l.moment ((l.moment, put b) ∷ T)) l (record p { content = p.content ++ b })
+put_stands limits b T l p at s line =
+    let m = l.moment in
     let R : Trace = (m, put b) ∷ T in
     let q : ProcessorParts = record p { content = p.content ++ b } in
     let folds : request_folds R ≡ folds_with s.request service_calls true (Some (job.Service p.part)) true (after_put q.content fresh_answer) p =
@@ -192,7 +195,7 @@ put_stands limits m b T l p at s line =
       same = folds;
     } in
     subst (λ (S : Trace). ServesAfter T S l q) (sym rests) (record {
-      serves = record { line = put_mark m b T l line; processor = subst (λ (st : Stage). StandsAt st (request_folds R) q) (sym at) stands };
+      serves = record { line = put_mark b T l line; processor = subst (λ (st : Stage). StandsAt st (request_folds R) q) (sym at) stands };
       charts = sym (append-nil (ended_items T)) ∙ ap (λ (x : List (List ChartItem)). ended_items T ++ x) (sym (open_charts p.stage p.progress (ap is_open_at at)));
     })
 
@@ -203,7 +206,7 @@ taken_first k n b few = take-take k n b few
 pub write_answers : (limits : Limits) (at n : ℕ) (b given : List ℕ) (T : Trace) (old new : LineParts) (p q : ProcessorParts) (r : Reply) → p.stage ≡ stage.Serving → is_some new.cause ≡ false → n ≤ length b → Serves T old p → new ≡ at_moment at old → given ≡ take n b → r ≡ write_reply p (length given) → q ≡ after_write (length given) given p → Answers T (callback_reply T (act.Write n)) (rested_callback limits new.moment T (act.Write n) b) r new q
 write_answers limits at n b given T old new p q r at_stage no_cause within s later sliced replied parts =
     let m = new.moment in
-    let line = subst (Represents T) (sym later) (at_another T old (max old.moment at) s.line) in
+    let line = moved_stands at T old new s.line later in
     let stands : StandsAt stage.Serving (request_folds T) p = subst (λ (st : Stage). StandsAt st (request_folds T) p) at_stage s.processor in
     let runs : running T ≡ Some (job.Service p.part) = ap (λ (f : RequestFolds). f.running) stands.same in
     let answer : answer_of T ≡ after_put p.content fresh_answer = ap (λ (f : RequestFolds). f.answer) stands.same in
@@ -224,7 +227,7 @@ write_answers limits at n b given T old new p q r at_stage no_cause within s lat
     let follows : (v : Bool) → ServesAfter T (rested_act limits m T (if v then None else Some (put (take (write_room p n) b) ∷ []))) new (if v then p else record p { content = p.content ++ take (write_room p n) b }) = λ v.
     elim v as (λ u. ServesAfter T (rested_act limits m T (if u then None else Some (put (take (write_room p n) b) ∷ []))) new (if u then p else record p { content = p.content ++ take (write_room p n) b })) [
       | true ↦ serves_same T T new p (ap is_open_at at_stage) (record { folds = refl; charts = refl }) s.processor line
-      | false ↦ put_stands limits m (take (write_room p n) b) T new p at_stage stands line
+      | false ↦ put_stands limits (take (write_room p n) b) T new p at_stage stands line
     ] in
     record {
       reply = replied ∙ ap (write_reply p) size ∙ sym wanted;
@@ -246,12 +249,12 @@ over_ends t keep cause S =
     ]
 
 -- a request that has ended in a trace, and what follows of itself
-pub ended_serves : (limits : Limits) (m : ℕ) (T R : Trace) (l : LineParts) (p : ProcessorParts) (ks : List Call) → p.stage ≡ stage.Over → IsEndedRequest (request_folds R) p → p.progress ≡ progress_of ks → ended_charts R ≡ ended_charts T ++ ks ∷ [] → Represents R l → ServesAfter T (rested limits m R) (after_rest limits l) p
-ended_serves limits m T R l p ks at finished progress charts line =
+pub ended_serves : (limits : Limits) (m : ℕ) (T R : Trace) (l : LineParts) (p : ProcessorParts) (ks : List Call) → p.stage ≡ stage.Over → IsEndedRequest (request_folds R) p → p.progress ≡ progress_of ks → ended_charts R ≡ ended_charts T ++ ks ∷ [] → m ≤ l.moment → Represents R l → ServesAfter T (rested limits m R) (after_rest limits l) p
+ended_serves limits m T R l p ks at finished progress charts by line =
     let same = rested_same limits m R in
     record {
       serves = record {
-        line = rest_stands limits m R l line;
+        line = rest_stands limits m R l by line;
         processor = stands_same R (rested limits m R) p same (subst (λ (st : Stage). StandsAt st (request_folds R) p) (sym at) finished);
       };
       charts = ap (map chart_of) (same.charts ∙ charts)
@@ -260,10 +263,11 @@ ended_serves limits m T R l p ks at finished progress charts line =
     }
 
 -- the service returns
-returned_line : (m : ℕ) (T : Trace) (l : LineParts) → Represents T l → Represents ((m, called call.Return None) ∷ (m, back) ∷ T) l
-returned_line m T l s = record {
+returned_line : (T : Trace) (l : LineParts) → Represents T l → Represents ((l.moment, called call.Return None) ∷ (l.moment, back) ∷ T) l
+returned_line T l s = record {
   same = s.same;
   sound = record { consumed_came = s.sound.consumed_came; took_written = s.sound.took_written; whole = s.sound.whole };
+  none_later = marks_at (back ∷ called call.Return None ∷ []) T l s;
 }
 
 pub return_answers : (limits : Limits) (at : ℕ) (b : List ℕ) (T : Trace) (old moved finished new : LineParts) (p q : ProcessorParts) → p.stage ≡ stage.Serving → Serves T old p → moved ≡ at_moment at old → finished ≡ line_returned p moved → q ≡ after_return p → new ≡ after_rest limits finished → Answers T (callback_reply T act.Return) (rested_callback limits new.moment T act.Return b) reply.Done new q
@@ -271,7 +275,7 @@ return_answers limits at b T old moved finished new p q at_stage s later written
     let m = moved.moment in
     let S : Trace = (m, called call.Return None) ∷ (m, back) ∷ T in
     let R : Trace = with_marks m (end_marks_by (is_kept S) (cause_of S)) S in
-    let line = subst (Represents T) (sym later) (at_another T old (max old.moment at) s.line) in
+    let line = moved_stands at T old moved s.line later in
     let stands : StandsAt stage.Serving (request_folds T) p = subst (λ (st : Stage). StandsAt st (request_folds T) p) at_stage s.processor in
     let runs : running T ≡ Some (job.Service p.part) = ap (λ (f : RequestFolds). f.running) stands.same in
     let in_state : state_of T ≡ state.Dispatched = ap (λ (f : RequestFolds). f.state) stands.same in
@@ -285,7 +289,7 @@ return_answers limits at b T old moved finished new p q at_stage s later written
     let text : line_returned p moved ≡ after_end_of (is_kept S) (minor_of_request S) (answer_of S) moved =
     sym (ap (λ (f : RequestFolds). after_end_of f.keep f.minor f.answer moved) stands.same) in
     let over_line : Represents R finished =
-    subst (Represents R) (sym (written ∙ text)) (over_stands S moved (returned_line m T moved line)) in
+    subst (Represents R) (sym (written ∙ text)) (over_stands S moved (returned_line T moved line)) in
     let over_request : IsEndedRequest (request_folds R) (after_return p) = record {
       request = stands.request;
       calls = call.Run ∷ call.Return ∷ [];
@@ -300,7 +304,7 @@ return_answers limits at b T old moved finished new p q at_stage s later written
     } in
     let charts : ended_charts R ≡ ended_charts T ++ (call.Run ∷ call.Return ∷ []) ∷ [] =
     ends.charts ∙ ap (λ (f : RequestFolds). ended_charts T ++ (f.calls ++ call.Return ∷ []) ∷ []) stands.same in
-    let follows = ended_serves limits m T R finished (after_return p) (call.Run ∷ call.Return ∷ []) refl over_request over_request.keeps.progress charts over_line in
+    let follows = ended_serves limits m T R finished (after_return p) (call.Run ∷ call.Return ∷ []) refl over_request over_request.keeps.progress charts (omega (arith, ap (λ (k : LineParts). k.moment) written)) over_line in
     record {
       reply = sym wanted;
       after = subst (λ (X : Trace). ServesAfter T X new q) (sym trace) (subst (λ (k : LineParts). ServesAfter T (rested limits m R) k q) (sym rests) (subst (λ (k : ProcessorParts). ServesAfter T (rested limits m R) (after_rest limits finished) k) (sym parts) follows));

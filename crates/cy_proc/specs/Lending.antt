@@ -6,5 +6,5 @@ use Rattle.cy_proc.specs.declared.line.Line.{Line}
 use Rattle.cy_proc.specs.contracts.line.Line.{the_row}
 
 -- it is what it was
-abbrev pub Rests : MutBor Line → Fml
-Rests line = follows_so the_row the_row line.ghost_name none (λ _ _. ⊤) (λ after. after ≡ line.now)
+abbrev pub IsGivenBack : MutBor Line → Fml
+IsGivenBack line = follows_so the_row the_row line.ghost_name none (λ _ _. ⊤) (λ after. after ≡ line.now)

@@ -1,9 +1,9 @@
 -- What is kept of a connection outside of its request, and which traces that stands for.
-use Rattle.std.specs.Prelude.{◌≡◌, ◌≤◌, ℕ, ◌+◌, Bool, false, List, Option, length}
+use Rattle.std.specs.Prelude.{◌≡◌, ◌≤◌, ℕ, ◌+◌, Bool, false, List, All, Option, length}
 use Rattle.cy_event.specs.declared.steps.CloseCause.{CloseCause}
 use Rattle.cy_event.specs.Answers.{continue_text}
 use Rattle.cy_model.specs.Folds.{begun_count, bytes_of, cause_of, consumed, has_ended, is_broken, is_open, output, took, unread, unsent}
-use Rattle.cy_model.specs.Marks.{Trace}
+use Rattle.cy_model.specs.Marks.{Mark, Trace}
 use Rattle.cy_model.specs.Settling.{begin_bound}
 
 pub record LineParts : Type 0 where
@@ -17,7 +17,7 @@ pub record LineParts : Type 0 where
   pub is_open : Bool
   pub cause : Option CloseCause
   pub has_ended : Bool
-  -- the moment of the last entry, which no mark is later than
+  -- the moment of the last entry
   pub moment : ℕ
 
 -- the parts that a trace leaves at a moment
@@ -43,7 +43,12 @@ pub record IsSound (T : Trace) : Type 0 where
   pub took_written : took T ≤ length (output T)
   pub whole : is_broken T ≡ false
 
+-- no mark is later than this moment
+abbrev pub NoneLater : ℕ → Trace → Type 0
+NoneLater moment T = All (λ (m : ℕ × Mark). m.0 ≤ moment) T
+
 -- the parts stand for the trace
 pub record Represents (T : Trace) (l : LineParts) : Type 0 where
   pub same : l ≡ line_parts l.moment T
   pub sound : IsSound T
+  pub none_later : NoneLater l.moment T

@@ -75,7 +75,7 @@ const INPUT_TOTAL: u64 = 1 << 62;
 const BEGIN_BOUND: usize = 16_000;
 
 impl Line {
-    ghost use Rattle.cy_proc.specs.Lending.{Rests};
+    ghost use Rattle.cy_proc.specs.Lending.{IsGivenBack};
 
     /// A line of a connection to which nothing has happened.
     ///
@@ -85,8 +85,9 @@ impl Line {
     pub fn new(alloc: Global) -> Result<Line, NoMemory>
         ensures new { IfOk result (λ line. line ≡ record { unread = []; came = 0; begun = 0; unsent = []; is_open = false; cause = None; has_ended = false; moment = 0 }) }
 
-        // It stands for a connection that was just admitted.
-        ensures stands { IfOk result (λ line. (t : ℕ) → Represents ((t, opened) ∷ []) line) }
+        // It stands for a connection that was admitted at moment 0, and once a moment has come for one admitted then.
+        ensures stands { IfOk result (λ line. Represents ((0, opened) ∷ []) line) }
+        ensures admitted { IfOk result (λ line. (t : ℕ) → Represents ((t, opened) ∷ []) (at_moment t line)) }
     {
         Ok(Line {
             kit: ConnKit::new(alloc)?,
@@ -99,25 +100,42 @@ impl Line {
         })
     }
 
+    /// Leaves nothing of the connection, and takes no memory: the line is that of the next one, admitted at this moment.
+    pub fn renew(&mut self, at: u64)
+        requires moment { at ≤ GREATEST_MOMENT }
+        ensures new { self.new ≡ record { unread = []; came = 0; begun = 0; unsent = []; is_open = false; cause = None; has_ended = false; moment = at } }
+        ensures stands { Represents ((at, opened) ∷ []) self.new }
+    {
+        self.kit.clear();
+        self.came = 0;
+        self.begun = 0;
+        self.is_open = false;
+        self.cause = None;
+        self.has_ended = false;
+        self.moment = at;
+    }
+
     /// Takes what the socket tells, at the later of this moment and the last one. No request is open.
     pub fn event(&mut self, at: u64, event: Event, bytes: &[u8], limits: &Limits) -> Reply
         requires open { self.old.is_open ≡ false }
         requires moment { at ≤ GREATEST_MOMENT }
         ensures moment { self.new.moment ≡ max self.old.moment at }
         ensures answers { AnswersEachEvent limits.now self.new.moment event bytes.now self.old result self.new }
+        ensures reply { result ≡ told_answer event bytes.now (at_moment at self.old) }
+        ensures parts { self.new ≡ after_told limits.now event bytes.now (at_moment at self.old) }
     {
         self.advance(at);
         self.take(event, bytes, limits)
     }
 
     /// Makes the moves of the container but taking up a head, and says how the connection then stands. No request is
-    /// open.
+    /// open. It is no entry: what is settled belongs to the entry before, so it comes at the last moment of the line.
     pub fn settle(&mut self, _at: u64, limits: &Limits) -> Standing
         requires open { self.old.is_open ≡ false }
+        ensures moment { self.new.moment ≡ self.old.moment }
         ensures rests { RestsEach limits.now self.old.moment self.old self.new }
         ensures parts { self.new ≡ after_rest limits.now self.old }
         ensures standing { result ≡ standing_of limits.now self.new }
-        ensures moment { self.new.moment ≡ self.old.moment }
     {
         self.rest(limits);
         self.standing(limits)
@@ -140,7 +158,7 @@ impl Line {
     /// The bytes that wait for the socket.
     pub fn unsent(&mut self) -> &[u8]
         ensures bytes { result.now ≡ self.old.unsent }
-        ensures* rests { sem 𝓛 (Rests self.entry) }
+        ensures* given_back { sem 𝓛 (IsGivenBack self.entry) }
     {
         self.kit.out_front()
     }

@@ -166,7 +166,7 @@ impl Processor {
         ensures answers { AnswersEachAct act.now bytes.now line.old self.old result line.new self.new }
         ensures limits { self.new.limits ≡ self.old.limits }
         ensures moment { line.new.moment ≡ max line.old.moment at }
-        ensures unread { _into.new ≡ _into.old }
+        ensures into { _into.new ≡ _into.old }
     {
         line.advance(at);
         let Stage::Serving = self.stage else {
@@ -185,7 +185,8 @@ impl Processor {
 
     /// The callback that is owed, where none runs.
     pub fn next_job(&self, _line: &Line) -> Option<Job>
-        ensures { (T : Trace) → StandsFor T self.now → result ≡ next_job T }
+        ensures owed { (T : Trace) → StandsFor T self.now → result ≡ next_job T }
+        ensures job { result ≡ job_at self.now }
     {
         self.owed_job()
     }

@@ -44,7 +44,7 @@ const END_LEN: usize = 39;
 /// The field that says that content comes in chunks.
 const CHUNKED_LINE: &[u8] = b"Transfer-Encoding: chunked\r\n";
 
-/// The bytes of a head at most.
+/// The bytes of a head at most, with both fields that frame content.
 pub const HEAD_ROOM: usize = 7544;
 
 /// Where the line of a field stands: its name from `start` to `colon`, its value from two bytes behind to `end`.

@@ -16,7 +16,7 @@ use Rattle.cy_script.specs.declared.settings.Setting.TheVariants.{MaxConnections
 use Rattle.cy_script.specs.declared.statements.Statement.{Statement}
 use Rattle.cy_script.specs.declared.statements.Statement.TheVariants as statement
 use Rattle.cy_script.specs.Conditions.{has_part, AreRules, AreSteps}
-use Rattle.cy_script.specs.Kept.{is_counted, AreLimits, IsKeepAlive, IsScript}
+use Rattle.cy_script.specs.Kept.{has_its_bytes, AreLimits, IsKeepAlive, IsScript}
 use Rattle.cy_script.specs.Lines.{IsStepLine, IsWritten}
 use Rattle.cy_script.specs.Settings.{with_setting, IsInRange}
 use Rattle.cy_script.specs.Spelling.{limits_after, rule_of, step_of, IsScriptText}
@@ -77,24 +77,24 @@ parts_kept (statement.Step step ∷ statements) (line ∷ lines) written = parts
 same_number : (m n : ℕ) → m ≡ n → eqb m n ≡ true
 same_number m n h = grind (arith, nat_tests)
 
-step_counted : (line : List ℕ) (s : Step) → IsStepLine line s → is_counted s ≡ true
-step_counted line (step.At moment) h = absurd h
-step_counted line (step.Admit conn) h = refl
-step_counted line (step.On conn event.In bytes) h = refl
-step_counted line (step.On conn event.End bytes) h = same_number (length bytes) 0 (ap length h.1)
-step_counted line (step.On conn (event.Took n) bytes) h = same_number (length bytes) 0 (ap length h.3)
-step_counted line (step.Run conn) h = refl
-step_counted line (step.Act conn (act.Write n) bytes) h = same_number n (length bytes) h.3
-step_counted line (step.Act conn act.Return bytes) h = same_number (length bytes) 0 (ap length h.1)
+step_has_its_bytes : (line : List ℕ) (s : Step) → IsStepLine line s → has_its_bytes s ≡ true
+step_has_its_bytes line (step.At moment) h = absurd h
+step_has_its_bytes line (step.Admit conn) h = refl
+step_has_its_bytes line (step.On conn event.In bytes) h = refl
+step_has_its_bytes line (step.On conn event.End bytes) h = same_number (length bytes) 0 (ap length h.1)
+step_has_its_bytes line (step.On conn (event.Took n) bytes) h = same_number (length bytes) 0 (ap length h.3)
+step_has_its_bytes line (step.Run conn) h = refl
+step_has_its_bytes line (step.Act conn (act.Write n) bytes) h = same_number n (length bytes) h.3
+step_has_its_bytes line (step.Act conn act.Return bytes) h = same_number (length bytes) 0 (ap length h.1)
 
-pub steps_counted : (statements : List Statement) (lines : List (List ℕ)) → AllZip IsWritten statements lines → list_all is_counted (filter_map step_of statements) ≡ true
-steps_counted [] lines written = refl
-steps_counted (s ∷ statements) [] written = absurd written
-steps_counted (statement.Nothing ∷ statements) (line ∷ lines) written = steps_counted statements lines written.1
-steps_counted (statement.Set setting value ∷ statements) (line ∷ lines) written = steps_counted statements lines written.1
-steps_counted (statement.NoLimit ∷ statements) (line ∷ lines) written = steps_counted statements lines written.1
-steps_counted (statement.Rule rule ∷ statements) (line ∷ lines) written = steps_counted statements lines written.1
-steps_counted (statement.Step s ∷ statements) (line ∷ lines) written = rw (step_counted line s written.0) (steps_counted statements lines written.1)
+pub steps_have_their_bytes : (statements : List Statement) (lines : List (List ℕ)) → AllZip IsWritten statements lines → list_all has_its_bytes (filter_map step_of statements) ≡ true
+steps_have_their_bytes [] lines written = refl
+steps_have_their_bytes (s ∷ statements) [] written = absurd written
+steps_have_their_bytes (statement.Nothing ∷ statements) (line ∷ lines) written = steps_have_their_bytes statements lines written.1
+steps_have_their_bytes (statement.Set setting value ∷ statements) (line ∷ lines) written = steps_have_their_bytes statements lines written.1
+steps_have_their_bytes (statement.NoLimit ∷ statements) (line ∷ lines) written = steps_have_their_bytes statements lines written.1
+steps_have_their_bytes (statement.Rule rule ∷ statements) (line ∷ lines) written = steps_have_their_bytes statements lines written.1
+steps_have_their_bytes (statement.Step s ∷ statements) (line ∷ lines) written = rw (step_has_its_bytes line s written.0) (steps_have_their_bytes statements lines written.1)
 
 -- ---- the whole
 
@@ -110,5 +110,5 @@ script_kept text script s =
       rules = subst (λ (t : Script). AreRules t.rules) s.says s.rules;
       known_parts = parts_kept s.statements s.lines s.are_written;
       steps = subst (λ (t : Script). AreSteps t.steps) s.says s.steps;
-      counted = steps_counted s.statements s.lines s.are_written;
+      bytes = steps_have_their_bytes s.statements s.lines s.are_written;
     })

@@ -32,12 +32,12 @@ abbrev pub is_nothing : List ℕ → Bool
 is_nothing bytes = length bytes == 0
 
 -- the bytes beside an event or an act are exactly those that it counts
-abbrev pub is_counted : Step → Bool
-is_counted (step.On conn event.End bytes) = is_nothing bytes
-is_counted (step.On conn (event.Took n) bytes) = is_nothing bytes
-is_counted (step.Act conn (act.Write n) bytes) = n == length bytes
-is_counted (step.Act conn act.Return bytes) = is_nothing bytes
-is_counted s = true
+abbrev pub has_its_bytes : Step → Bool
+has_its_bytes (step.On conn event.End bytes) = is_nothing bytes
+has_its_bytes (step.On conn (event.Took n) bytes) = is_nothing bytes
+has_its_bytes (step.Act conn (act.Write n) bytes) = n == length bytes
+has_its_bytes (step.Act conn act.Return bytes) = is_nothing bytes
+has_its_bytes s = true
 
 -- the script is within what a text of it may say
 pub record IsScript (script : Script) : Type 0 where
@@ -46,4 +46,4 @@ pub record IsScript (script : Script) : Type 0 where
   pub rules : AreRules script.rules
   pub known_parts : list_all has_part script.rules ≡ true
   pub steps : AreSteps script.steps
-  pub counted : list_all is_counted script.steps ≡ true
+  pub bytes : list_all has_its_bytes script.steps ≡ true

@@ -157,14 +157,14 @@ act_keeps s a b r T p n written keeps here answers each pushed =
 
 -- ---- the opening
 
-pub open_keeps : (s : Settings) (k n : LiveParts) (written : List ℕ) → ((t : ℕ) → Lives ((t, opened) ∷ []) k) → k.limits ≡ s.limits → k.line.moment ≡ start → is_over_at k.processor.stage ≡ false → SettlesEach s.rules k n → KeepsEach k n → written ≡ [] ++ drop (length k.line.unsent) n.line.unsent → Keeps s (after s.limits s.rules start [] opening) (record { live = n; written = written })
+pub open_keeps : (s : Settings) (k n : LiveParts) (written : List ℕ) → Lives ((start, opened) ∷ []) k → k.limits ≡ s.limits → k.line.moment ≡ start → is_over_at k.processor.stage ≡ false → SettlesEach s.rules k n → KeepsEach k n → written ≡ [] ++ drop (length k.line.unsent) n.line.unsent → Keeps s (after s.limits s.rules start [] opening) (record { live = n; written = written })
 unfolding after
 open_keeps s k n written lives limits moment kept settles each pushed =
     let T : Trace = (start, opened) ∷ [] in
     let R = settled s.limits s.rules start T in
     let p : Parts = record { live = k; written = [] } in
-    let first : Keeps s T p = record { lives = lives start; limits = limits; moment = moment; kept = kept; written = refl } in
-    let after_all : Lives R n = at_settings s T p (λ l t. settled l s.rules t T) n first (settles T (lives start)) in
+    let first : Keeps s T p = record { lives = lives; limits = limits; moment = moment; kept = kept; written = refl } in
+    let after_all : Lives R n = at_settings s T p (λ l t. settled l s.rules t T) n first (settles T lives) in
     goes_on s T R p n written first after_all each (written_on T R p n s written first after_all (settling_writes s.limits s.rules start T) pushed)
 
 -- ---- what is told in the end

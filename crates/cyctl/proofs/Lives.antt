@@ -54,7 +54,8 @@ told_lives e b r T p l s later answers =
     }
 
 pub rested_lives : (T : Trace) (p : LiveParts) (l : LineParts) → Lives T p → LineRestsEach p.limits p.line.moment p.line l → Lives (rested p.limits p.line.moment T) (record p { line = l })
-rested_lives T p l s rests = same_lives T (rested p.limits p.line.moment T) p l s (rested_same p.limits p.line.moment T) (rests T s.serves.line)
+rested_lives T p l s rests =
+    same_lives T (rested p.limits p.line.moment T) p l s (rested_same p.limits p.line.moment T) (rests T s.serves.line)
 
 -- nothing is done by itself while a request is open
 pub open_lives : (T : Trace) (p : LiveParts) → Lives T p → is_open_at p.processor.stage ≡ true → Lives (rested p.limits p.line.moment T) p
@@ -311,3 +312,9 @@ pub turn_alive : (p : LiveParts) (r : Reply) (l : LineParts) (q : ProcessorParts
 turn_alive p r l q a o same answers =
     let w = answers a.0 a.1.serves in
     (rested_turn q.limits l.moment a.0, served_lives a.0 (rested_turn q.limits l.moment a.0) p l q (open_not_over p.processor.stage o) (same ∙ a.1.limits) a.1 w.after)
+
+-- and after an act
+pub act_alive : (a : Act) (b : List ℕ) (p : LiveParts) (r : Reply) (l : LineParts) (q : ProcessorParts) → IsAlive p → is_open_at p.processor.stage ≡ true → q.limits ≡ p.processor.limits → AnswersEachAct a b p.line p.processor r l q → IsAlive (record p { line = l; processor = q })
+act_alive a b p r l q alive o same answers =
+    let w = answers alive.0 alive.1.serves in
+    (rested_callback q.limits l.moment alive.0 a b, served_lives alive.0 (rested_callback q.limits l.moment alive.0 a b) p l q (open_not_over p.processor.stage o) (same ∙ alive.1.limits) alive.1 w.after)

@@ -52,7 +52,7 @@ unfolding report
 report_is script s steps run text limits rules same replied stands settings tells =
     let w = reverse steps in
     let cs = run.connector.settings in
-    tells cs (connections cs.limits cs.rules w) stands.keeps
+    tells cs (connections cs.limits cs.rules w) stands.admitted
     ∙ ap (λ (t : Settings). reply_lines 1 run.replies.items ++ flat_map (history_text t.limits t.rules) (by_number (connections t.limits t.rules w))) settings
     ∙ ap (λ (rs : List Reply). reply_lines 1 rs ++ flat_map (history_text s.limits s.rules) (by_number (connections s.limits s.rules w))) replied
     ∙ ap (λ (l : Limits). report l s.rules steps) limits

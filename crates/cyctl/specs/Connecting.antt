@@ -26,15 +26,15 @@ CanTake (step.Run c) a = Unit {0}
 CanTake (step.Act c act b) a = IsWithinBytes act b
 
 -- the connection that is kept stands for the only one that was admitted
-abbrev pub KeepsConnections : Settings → Option Admitted → List History → Type 0
-KeepsConnections s None hs = hs ≡ []
-KeepsConnections s (Some a) hs =
+abbrev pub StandsForConnections : Settings → Option Admitted → List History → Type 0
+StandsForConnections s None hs = hs ≡ []
+StandsForConnections s (Some a) hs =
     (h : History) × (hs ≡ h ∷ []) × (h.number ≡ a.number) × Keeps s (trace_of s.limits s.rules h.entries) a.connection
 
 -- the connector stands for the steps, the newest first
 pub record StandsFor (w : List Step) (c : Connector) : Type 0 where
   pub moment : moment w ≡ start
-  pub keeps : KeepsConnections c.settings c.admitted (connections c.settings.limits c.settings.rules w)
+  pub admitted : StandsForConnections c.settings c.admitted (connections c.settings.limits c.settings.rules w)
 
 -- an entry of the connection that has the number
 pub record MakesEntry (s : Settings) (e : Entry) (old : Admitted) (r : Reply) (new : Admitted) : Type 0 where
@@ -79,4 +79,4 @@ pub record CanTakeAll (steps : List Step) : Type 0 where
 -- a text grew by the lines of the connections that the one that was admitted stands for
 abbrev pub TellsConnections : Option Admitted → List ℕ → List ℕ → Type 0
 TellsConnections a before now =
-    (s : Settings) (hs : List History) → KeepsConnections s a hs → now ≡ before ++ flat_map (history_text s.limits s.rules) (by_number hs)
+    (s : Settings) (hs : List History) → StandsForConnections s a hs → now ≡ before ++ flat_map (history_text s.limits s.rules) (by_number hs)

@@ -12,7 +12,7 @@ use Rattle.cy_proc.specs.LineChanges.{work_of}
 use Rattle.cy_proc.specs.Processors.{is_open_at, is_over_at}
 use Rattle.cyctl.specs.Parts.{LiveParts, Lives}
 
--- some trace has led to these parts
+-- these parts stand for some trace
 abbrev pub IsAlive : LiveParts → Type 0
 IsAlive p = (T : Trace) × Lives T p
 
@@ -54,7 +54,7 @@ pub record KeepsEach (old new : LiveParts) : Type 0 where
   pub kept : is_over_at old.processor.stage ≡ false → is_over_at new.processor.stage ≡ false
 
 -- resting leaves no more to do, and the moment
-pub record Closes (old new : LiveParts) : Type 0 where
+pub record LeavesNoMoreWork (old new : LiveParts) : Type 0 where
   pub work : work_of new.line ≤ work_of old.line
   pub moment : new.line.moment ≡ old.line.moment
 

@@ -6,7 +6,7 @@ ghost use Rattle.cyctl.specs.Answered.{AnswersEach, TellsEach, is_closed_reply};
 ghost use Rattle.cyctl.specs.Parts.{Keeps, start};
 
 use crate::chart::Chart;
-use crate::live::Live;
+use crate::live::{Live, START};
 use crate::settings::Settings;
 use cy_event::{Act, CloseCause, Event, Reply};
 use std::alloc::{AllocError, Global};
@@ -41,7 +41,7 @@ impl Connection {
     pub fn open(alloc: Global, settings: &Settings) -> Result<Connection, AllocError>
         ensures { IfOk result (λ c. Keeps settings.now (after settings.now.limits settings.now.rules start [] opening) c) }
     {
-        let mut live = Live::open(alloc, &settings.limits)?;
+        let mut live = Live::open(alloc, START, &settings.limits)?;
         let mut written = Vec::new(alloc);
         let kept = live.unsent_len();
         live.settle(&settings.rules)?;

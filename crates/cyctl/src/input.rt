@@ -41,7 +41,7 @@ pub fn read_all<S: Source>(alloc: Global, source: &mut S) -> Result<Vec<u8>, Inp
 
     // A source failed only where its count rose, and the count rises nowhere else.
     ensures failed { result ≡ Err InputFault.Failed → Rose (S.faults source.old) (S.faults source.new) }
-    ensures kept { result ≢ Err InputFault.Failed → S.faults source.new ≡ S.faults source.old }
+    ensures same { result ≢ Err InputFault.Failed → S.faults source.new ≡ S.faults source.old }
     ensures later { S.faults source.old ≤ S.faults source.new }
 
     // An input is too large exactly where more than the greatest number of bytes were read.

@@ -1,14 +1,15 @@
 //! A connection that goes on: its line, the processor of its request, and the charts of the requests that have ended.
-//! Every entry comes at the last moment of the line.
+//! Every entry after its admission comes at the last moment of the line.
 ghost use Rattle.std.specs.Prelude.{◌≡◌, ◌≤◌, ◌++◌, ◌∷◌, [], ℕ, drop, length, not, ◌&&◌, false, OnOk, IfOk};
 ghost use Rattle.cy_event.specs.declared.head.TheConstants.{HEAD_ROOM, FIELD_ROOM};
+ghost use Rattle.cy_event.specs.declared.limits.TheConstants.{GREATEST_MOMENT};
 ghost use Rattle.cy_model.specs.Folds.{is_gone};
 ghost use Rattle.cy_model.specs.Marks.{Trace, opened};
 ghost use Rattle.cy_model.specs.Steps.{IsWithinBytes};
 ghost use Rattle.cy_proc.specs.LineChanges.{after_rest, is_due};
 ghost use Rattle.cy_proc.specs.Processors.{fresh_processor, is_open_at, is_over_at};
-ghost use Rattle.cyctl.specs.Lives.{Closes, KeepsEach, RestsEach, SettlesEach, LivesAfterAct, LivesAfterEvent, LivesAfterTurn, charts_in};
-ghost use Rattle.cyctl.specs.Parts.{Lives, start};
+ghost use Rattle.cyctl.specs.Lives.{LeavesNoMoreWork, KeepsEach, RestsEach, SettlesEach, LivesAfterAct, LivesAfterEvent, LivesAfterTurn, charts_in};
+ghost use Rattle.cyctl.specs.Parts.{Lives};
 
 use crate::chart::Chart;
 use cy_event::{Act, CloseCause, Event, Limits, Reply};
@@ -35,26 +36,28 @@ impl Model for Live {
 
     ghost view = { λ l. record { limits = l.limits; line = l.line; processor = l.processor; charts = l.charts.items } };
 
-    // Some trace has led to it.
+    // It stands for some trace.
     ghost invariant = { λ l. IsAlive (record { limits = l.limits; line = l.line; processor = l.processor; charts = l.charts.items }) };
 }
 
 /// The first moment. Entries that come at it come at the last moment of their line.
-const START: u64 = 0;
+pub const START: u64 = 0;
 
 impl Live {
-    /// A connection that was just admitted.
-    pub fn open(alloc: Global, limits: &Limits) -> Result<Live, AllocError>
+    /// A connection that is admitted at this moment.
+    pub fn open(alloc: Global, at: u64, limits: &Limits) -> Result<Live, AllocError>
+        requires moment { at ≤ GREATEST_MOMENT }
         requires head_room { limits.now.max_head ≤ HEAD_ROOM }
         requires field_room { limits.now.max_fields ≤ FIELD_ROOM }
-        ensures lives { IfOk result (λ live. (t : ℕ) → Lives ((t, opened) ∷ []) live) }
+        ensures lives { IfOk result (λ live. Lives ((at, opened) ∷ []) live) }
         ensures limits { IfOk result (λ live. live.limits ≡ limits.now) }
-        ensures moment { IfOk result (λ live. live.line.moment ≡ start) }
+        ensures moment { IfOk result (λ live. live.line.moment ≡ at) }
         ensures kept { IfOk result (λ live. is_over_at live.processor.stage ≡ false) }
     {
-        let Ok(line) = Line::new(alloc) else {
+        let Ok(mut line) = Line::new(alloc) else {
             return Err(AllocError);
         };
+        line.renew(at);
         let Ok(processor) = Processor::new(alloc, limits) else {
             return Err(AllocError);
         };
@@ -180,7 +183,7 @@ impl Live {
         requires kept { is_over_at self.old.processor.stage ≡ false }
         ensures rests { RestsEach self.old self.new }
         ensures due { result ≡ (not (is_open_at self.new.processor.stage) && is_due self.old.limits self.new.line) }
-        ensures line { Closes self.old self.new }
+        ensures line { LeavesNoMoreWork self.old self.new }
         ensures processor { self.new.processor ≡ self.old.processor }
         ensures charts { self.new.charts ≡ self.old.charts }
         ensures limits { self.new.limits ≡ self.old.limits }

@@ -19,7 +19,7 @@ pub fn write_all<K: Sink>(sink: &mut K, text: &[u8]) -> Result<(), OutputFault>
 
     // The sink failed only where its count rose, and the count rises nowhere else.
     ensures failed { OnErr result (Rose (K.faults sink.old) (K.faults sink.new)) }
-    ensures kept { OnOk result (K.faults sink.new ≡ K.faults sink.old) }
+    ensures same { OnOk result (K.faults sink.new ≡ K.faults sink.old) }
     ensures later { K.faults sink.old ≤ K.faults sink.new }
 {
     let mut written = 0;

@@ -58,6 +58,11 @@ fn an_idle_line_closes_at_the_end_of_the_input(rt: HostRuntime) -> Result<(), Fa
     assert_eq!(rt; line.cause(), Some(CloseCause::InputEnd));
     assert_eq!(rt; tell(&rt, &mut line, Event::End, b""), Reply::Closed);
     assert_eq!(rt; tell(&rt, &mut line, Event::Took(5), b""), Reply::Closed);
+
+    // The next connection finds nothing of it.
+    line.renew(0);
+    assert_eq!(rt; settle(&rt, &mut line), Standing::Waiting);
+    assert_eq!(rt; line.cause(), None);
     Ok(())
 }
 

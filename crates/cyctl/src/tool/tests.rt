@@ -246,6 +246,68 @@ fn greatest_head(rt: HostRuntime) -> Result<(), Fail> {
     Ok(())
 }
 
+/// What comes behind 146 heads that no rule serves, and what is told of it: a further head in the same piece and the
+/// steps behind it; their replies, the cause, what was taken, and the last chart.
+///
+/// Each of the 146 is answered with 110 bytes. 15,950 wait as the last of them is taken up, and 16,060 behind it. What
+/// follows isn't taken up while 16,060 or 16,001 wait, and is with 16,000; so is the end of the input.
+const BEHIND_146: [(&str, &str, &str, &str); 3] = [
+    (
+        "GET /s HTTP/1.1\\r\\nHost: a\\r\\n\\r\\n\"\nrun 1\nout 1 59\nrun 1\nout 1 1\nrun 1\n",
+        "2 Taken 3970\n3 Idle\n4 Taken 59\n5 Idle\n6 Taken 1\n7 Begun service 0\n",
+        "open took 60",
+        "chart 1 147 Run\n",
+    ),
+    (
+        "\"\nend 1\nout 1 59\n",
+        "2 Taken 3942\n3 Done\n4 Taken 59\n",
+        "open took 59",
+        "",
+    ),
+    (
+        "\"\nend 1\nout 1 60\n",
+        "2 Taken 3942\n3 Done\n4 Taken 60\n",
+        "InputEnd took 60",
+        "",
+    ),
+];
+
+/// A text that stands 146 times.
+fn all_146(alloc: Global, text: &str) -> Result<String, Fail> {
+    let mut all = String::new(alloc);
+    for _ in 0..146 {
+        all.push_str(text)?;
+    }
+    Ok(all)
+}
+
+/// A further head is taken up where at most 16,000 bytes wait for the socket.
+#[test]
+fn most_bytes_that_wait(rt: HostRuntime) -> Result<(), Fail> {
+    let alloc = rt.alloc();
+    let heads = all_146(alloc, "GET / HTTP/1.1\\r\\nHost: a\\r\\n\\r\\n")?;
+    let answers = all_146(
+        alloc,
+        "HTTP/1.1 404 \\r\\nContent-Type: text/plain\\r\\nContent-Length: 10\\r\\nDate: Thu, 01 Jan 1970 00:00:00 GMT\\r\\n\\r\\nError 404\\n",
+    )?;
+    let mut charts = String::new(alloc);
+    for number in 1..147 {
+        charts.push_str(&format!(in alloc; "chart 1 {number}\n")?)?;
+    }
+    for (behind, replies, standing, chart) in BEHIND_146 {
+        let script = format!(in alloc;
+            "coyote-script 1\nset maxKeepAliveRequests -1\nrule /s 0 sync\nadmit 1\nin 1 \"{heads}{behind}"
+        )?;
+        let report = format!(in alloc;
+            "1 Entered\n{replies}conn 1 {standing} of 16060\nout \"{answers}\"\n{charts}{chart}"
+        )?;
+        let (status, written) = replayed(alloc, script.as_bytes())?;
+        assert_eq!(rt; status, 0);
+        assert_eq!(rt; written.as_slice(), report.as_bytes(), "{behind}");
+    }
+    Ok(())
+}
+
 /// Targets of which each rule serves some, the bytes that their heads have, and the components that serve them.
 #[test]
 fn served_targets(rt: HostRuntime) -> Result<(), Fail> {

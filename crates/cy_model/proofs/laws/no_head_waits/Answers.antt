@@ -1,4 +1,4 @@
-use Rattle.cy_model.proofs.Settlings as shown
+use Rattle.cy_model.proofs.Waiting as shown
 use Rattle.cy_model.proofs.laws.no_head_waits.Goals as goal
 
 pub returns : goal.returns

@@ -8,5 +8,5 @@ invariant-loop-turn g l = record {
   turns : l._turn ≤ vec_len l.input;
   few : vec_len l.input ≤ 67108864;
   bytes : Consumes (g.S.Source.left l.initial.source) (g.S.Source.left l.source) l.input.items;
-  kept : g.S.Source.faults l.source ≡ g.S.Source.faults l.initial.source;
+  same : g.S.Source.faults l.source ≡ g.S.Source.faults l.initial.source;
 }

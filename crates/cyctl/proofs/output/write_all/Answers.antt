@@ -14,5 +14,5 @@ loop-written-preserved g c =
     record {
       within = omega (arith, c.in-Took.ensures.within);
       bytes = Appends-further _ _ _ text done n c.loop-written.invariant.bytes more;
-      kept = c.in-Took.ensures.cause ∙ c.loop-written.invariant.kept;
+      same = c.in-Took.ensures.cause ∙ c.loop-written.invariant.same;
     }

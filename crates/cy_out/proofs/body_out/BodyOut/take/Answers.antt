@@ -1,6 +1,6 @@
 use Rattle.std.proofs.Common.{arith, ap, sym, subst, ◌≡◌, ℕ, ◌+◌, ◌-◌, ◌∙◌, false, List, length, take, drop, nat_lt, Option, None, Some, length-drop, length-take-le}
 use Rattle.cy_event.specs.Answering.{Sending, Took, more_by, passes_length, push_bytes, with_bytes}
-use Rattle.cy_out.specs.Sent.{CanFinish, answering_with}
+use Rattle.cy_out.specs.Kept.{CanFinish, answering_with}
 use Rattle.cy_out.proofs.Pushes.{push_none, pushed_more, rest_fits, rest_is}
 use Rattle.cy_out.proofs.body_out.BodyOut.take.Goals as goal
 

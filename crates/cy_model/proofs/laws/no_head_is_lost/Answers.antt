@@ -1,0 +1,5 @@
+use Rattle.cy_model.proofs.Waiting as shown
+use Rattle.cy_model.proofs.laws.no_head_is_lost.Goals as goal
+
+pub returns : goal.returns
+returns c = shown.no_head_is_lost

@@ -1,0 +1,5 @@
+use Rattle.cy_model.proofs.Ends as shown
+use Rattle.cy_model.proofs.laws.refusals_are_told.Goals as goal
+
+pub returns : goal.returns
+returns c = shown.refusals_are_told

@@ -1,0 +1,5 @@
+use Rattle.cy_out.proofs.CallsOneAnswer.{all_calls_go_by_the_length}
+use Rattle.cy_out.proofs.laws.all_calls_go_by_the_length.Goals as goal
+
+pub returns : goal.returns
+returns c = all_calls_go_by_the_length
