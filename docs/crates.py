@@ -102,8 +102,9 @@ def drawn():
     joined = set(programs).union(*(reached(own, name) for name in programs))
     rows, layer = layers_of(below)
     at = place(rows, chains := chains_of(below, layer, rows))
-    left = min(at[name] for name in below) - WIDTH / 2 - 20
-    width = max(at[name] for name in below) + WIDTH / 2 + 20 - left
+    edge = lambda it: WIDTH / 2 if it in below else 0
+    left = min(x - edge(it) for it, x in at.items()) - 20
+    width = max(x + edge(it) for it, x in at.items()) + 20 - left
     top = lambda row: 24 + (len(rows) - 1 - row) * STEP
     row_of = {it: i for i, row in enumerate(rows) for it in row}
     lines = []

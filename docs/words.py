@@ -2,7 +2,8 @@
 """Tells which word of specs/ or constant of the code has two meanings, and whether the glossary has each word once.
 
 A word has two meanings where two files of specs/ define it by different texts, and a constant where two files give it
-different values. What may have two is listed in docs/words.txt, each with the reason. Constants of tests don't count.
+different values, if both are of one crate, or one of their crates stands on the other. What may have two is listed in
+docs/words.txt, each with the reason. Constants of tests, and those of a type, don't count.
 
 Usage: docs/words.py [--check]    status 1 where a word or constant that isn't listed has two meanings
 """
@@ -12,7 +13,7 @@ import sys
 from generated import DOCS, ROOT, crates, spec_file, spec_files
 
 LISTED = DOCS / "words.txt"
-CONSTANT = re.compile(r"^ *(?:pub(?:\([a-z]+\))? )?const (\w+): [^=]+ = ([^;]+);", re.M)
+CONSTANT = re.compile(r"^(?:pub(?:\([a-z]+\))? )?const (\w+): [^=]+ = ([^;]+);", re.M)
 
 
 def listed():
@@ -37,6 +38,28 @@ def spec_words():
                 text = " ".join(" ".join([first, *word.body]).split())
                 found.setdefault(word.name, {}).setdefault(text, []).append("%s/%s" % (crate, path.stem))
     return found
+
+
+def above_each_other():
+    """For each crate itself, those that it stands on, and those that stand on it."""
+    below = crates()
+    reached = {}
+    for name in below:
+        found, todo = {name}, [name]
+        while todo:
+            for it in below.get(todo.pop(), []):
+                if it in below and it not in found:
+                    found.add(it)
+                    todo.append(it)
+        reached[name] = found
+    return {name: reached[name] | {it for it in below if name in reached[it]} for name in below}
+
+
+def meet(texts, near):
+    """Whether two of the places with different texts are of one crate, or of two of which one stands on the other."""
+    crate = lambda place: place.split("/")[0]
+    places = [[crate(place) for place in found] for found in texts.values()]
+    return any(b in near[a] for i, one in enumerate(places) for other in places[i + 1 :] for a in one for b in other)
 
 
 def constants():
@@ -64,10 +87,10 @@ def glossary_faults():
 def main():
     if sys.argv[1:] not in ([], ["--check"]):
         sys.exit(__doc__)
-    reasons, faults, met = listed(), glossary_faults(), set()
+    reasons, faults, met, near = listed(), glossary_faults(), set(), above_each_other()
     for kind, found in (("word", spec_words()), ("constant", constants())):
         for name, texts in sorted(found.items()):
-            if len(texts) > 1:
+            if len(texts) > 1 and meet(texts, near):
                 met.add(name)
                 if name not in reasons:
                     places = "; ".join(", ".join(places) for places in texts.values())
