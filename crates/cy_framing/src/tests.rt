@@ -1,3 +1,4 @@
+//! What the contracts leave open, and tables that are proved too: the tests of the crate.
 use super::*;
 use cy_event::{FIELD_ROOM, Framing, Limits, RequestHead};
 use std::process::Abort;

@@ -5,7 +5,8 @@ use Rattle.std.proofs.lemmas.Bool.{cond-true, cond-false, and_parts, and_from, l
 use Rattle.httparse.specs.Grammar.{RequestHead}
 use Rattle.cy_event.specs.Heads.{Head, awaited, found, malformed, front_length, whole_head, host_fits, front_from, head_from_front, head_of}
 use Rattle.cy_head.specs.HeadGrammar.{field_of_line, head_of_tree, HeadsAreTheGrammar, HeadsAreAwaited}
-use Rattle.cy_head.proofs.HeadLaws.{tree_is_read, read_is_tree}
+use Rattle.cy_head.proofs.HeadPrinted.{tree_is_read}
+use Rattle.cy_head.proofs.HeadLaws.{read_is_tree}
 
 -- what a found head tells
 pub record IsFound (max_head max_fields : ℕ) (bytes : List ℕ) (front : Option ℕ) (n : ℕ) (h : Head) : Type 0 where

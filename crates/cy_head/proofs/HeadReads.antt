@@ -7,7 +7,8 @@ use Rattle.cy_event.specs.Heads.{Field, Head, awaited, found, malformed, whole_h
 use Rattle.cy_head.proofs.HeadFronts.{heads_are_awaited}
 use Rattle.cy_head.specs.HeadGrammar.{field_of_line, head_of_tree}
 use Rattle.cy_head.specs.HeadSpans.{field_at, fields_at, head_at, HasWhole}
-use Rattle.cy_head.proofs.HeadLaws.{tree_is_read, read_is_tree}
+use Rattle.cy_head.proofs.HeadPrinted.{tree_is_read}
+use Rattle.cy_head.proofs.HeadLaws.{read_is_tree}
 use Rattle.httparse.specs.Grammar.{RequestHead, ReadsRequest}
 use Rattle.httparse.specs.Spans.{span_bytes, header_bytes, name_and_value, IsWithin, IsRequestAt}
 use Rattle.httparse.specs.declared.spans.RequestSpans.{RequestSpans}

@@ -1,6 +1,7 @@
 pub mod HeadDue
 pub mod HeadFronts
 pub mod HeadGrowth
+pub mod HeadPrinted
 pub mod HeadLaws
 pub mod HeadLines
 pub mod HeadReads

@@ -1,3 +1,4 @@
+//! What the contracts leave open, and tables that are proved too: the tests of the crate.
 ghost use Rattle.std.specs.Prelude.{◌≤◌};
 ghost use Rattle.cy_event.specs.declared.head.TheConstants.{HEAD_ROOM, FIELD_ROOM};
 

@@ -14,7 +14,8 @@ use Rattle.cy_in.specs.Intakes.{ahead, content_read, has_content, is_whole, piec
 use Rattle.cy_in.specs.Scans.{scan_at}
 use Rattle.cy_event.specs.declared.steps.Reply.TheVariants as reply
 use Rattle.cy_in.proofs.Counting.{counts_bytes}
-use Rattle.cy_in.proofs.Following.{Follows, Found, Place, content_on, first_seen, follows_start, follows_turns, found, given_first, none_due, scan_on}
+use Rattle.cy_in.proofs.Following.{Follows, Place, content_on, first_seen, follows_start, given_first, scan_on}
+use Rattle.cy_in.proofs.FollowingReads.{Found, follows_turns, found, none_due}
 use Rattle.cy_in.proofs.Gives.{given_is}
 
 scan_of_at : (m : BodyMark) (c : List ℕ) (s : BodyStage) → scan_at m s ≡ scan_of (body_at m c s)

@@ -19,4 +19,5 @@ pub mod OtherLimits
 pub mod FirstBad
 pub mod Counting
 pub mod Following
+pub mod FollowingReads
 pub mod Delivering

@@ -1,4 +1,4 @@
-// Bodies by tables, each put in at once and byte by byte; and each call on its happy path, with ample memory.
+//! Bodies by tables, each put in at once and byte by byte; and each call on its happy path, with ample memory.
 ghost use Rattle.std.specs.Prelude.{◌≡◌, ◌+◌, ◌≤◌, None, IsTrue, length};
 
 use super::*;

@@ -1,3 +1,4 @@
+-- What the tactics leave of the proof of `coding_framing`.
 use Rattle.std.proofs.Common.{◌∙◌, sym, ap, codes}
 use Rattle.std.proofs.lemmas.Bool.{cond-false, ne_eqb}
 use Rattle.cy_event.specs.Heads.{values_of}

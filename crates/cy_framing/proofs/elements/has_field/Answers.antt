@@ -1,3 +1,4 @@
+-- What the tactics leave of the proof of `has_field`.
 use Rattle.std.proofs.Common.{◌∙◌, sym}
 use Rattle.cy_event.specs.Heads.{Field}
 use Rattle.cy_framing.proofs.ElementLemmas.{named_there, not_named_there}

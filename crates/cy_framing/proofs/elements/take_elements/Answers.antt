@@ -1,3 +1,4 @@
+-- What the tactics leave of the proof of `take_elements`.
 use Rattle.std.proofs.Common.{◌∙◌, sym}
 use Rattle.cy_event.specs.Heads.{Field}
 use Rattle.cy_framing.proofs.ElementLemmas.{line_taken, line_passed}

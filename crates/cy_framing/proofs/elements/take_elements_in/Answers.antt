@@ -1,3 +1,4 @@
+-- What the tactics leave of the proof of `take_elements_in`.
 use Rattle.std.proofs.Common.{◌∙◌, sym, ap, true, false, refl}
 use Rattle.cy_event.specs.Heads.{trimmed}
 use Rattle.cy_framing.proofs.ElementLemmas.{taken, empty_is, none_left}

@@ -1,3 +1,4 @@
+-- What the tactics leave of the proof of `expected_by`.
 use Rattle.std.proofs.Common.{codes}
 use Rattle.cy_event.specs.Heads.{values_of}
 use Rattle.cy_event.specs.Framings.{elements_of}

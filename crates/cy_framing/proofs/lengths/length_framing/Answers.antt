@@ -1,3 +1,4 @@
+-- What the tactics leave of the proof of `length_framing`.
 use Rattle.std.proofs.Common.{◌∙◌, ap, codes}
 use Rattle.cy_event.specs.Heads.{values_of}
 use Rattle.cy_event.specs.Framings.{elements_of}

@@ -1,3 +1,4 @@
+-- What the tactics leave of the proof of `number_in`.
 use Rattle.std.proofs.Common.{◌∙◌, sym, ap}
 use Rattle.cy_bytes.specs.Numbers.{decimal_of}
 use Rattle.cy_bytes.specs.Tokens as token

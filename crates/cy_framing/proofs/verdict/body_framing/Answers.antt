@@ -1,3 +1,4 @@
+-- What the tactics leave of the proof of `body_framing`.
 use Rattle.std.proofs.Common.{◌∙◌, sym}
 use Rattle.cy_framing.proofs.VerdictLemmas.{nothing_is_said, length_is_said, both_are_said, coding_is_said}
 use Rattle.cy_framing.proofs.verdict.body_framing.Goals as goal

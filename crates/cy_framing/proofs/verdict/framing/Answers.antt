@@ -1,3 +1,4 @@
+-- What the tactics leave of the proof of `framing`.
 use Rattle.std.proofs.lemmas.Result.{err_from_is_err_and}
 use Rattle.cy_framing.proofs.VerdictLemmas.{all_is_told, awaited, body_is_refused, expectation_is_refused, expectations, not_awaited}
 use Rattle.cy_framing.proofs.verdict.framing.Goals as goal

@@ -1,3 +1,4 @@
+-- The law `reserved_names_are_kept`, by what is proved of it elsewhere.
 use Rattle.cy_respond.proofs.ReservedNames as reserved
 use Rattle.cy_respond.proofs.laws.reserved_names_are_kept.Goals as goal
 

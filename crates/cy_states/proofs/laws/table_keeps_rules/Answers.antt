@@ -1,3 +1,4 @@
+-- The law `table_keeps_rules`, by what is proved of it elsewhere.
 use Rattle.cy_states.proofs.Cells.{each_cell}
 use Rattle.cy_states.proofs.laws.table_keeps_rules.Goals as goal
 

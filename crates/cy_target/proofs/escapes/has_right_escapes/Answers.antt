@@ -1,3 +1,4 @@
+-- What the tactics leave of the proof of `has_right_escapes`.
 use Rattle.std.proofs.Common.{◌∙◌, sym, rules, drop, ◌≡◌, ap, []}
 use Rattle.std.proofs.lemmas.List.{drop_all}
 use Rattle.cy_target.proofs.EscapeLemmas.{escapes_right, is_some-unescaped, wrong_at}

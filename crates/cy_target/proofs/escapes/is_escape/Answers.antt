@@ -1,3 +1,4 @@
+-- What the tactics leave of the proof of `is_escape`.
 use Rattle.std.proofs.Common.{rules}
 use Rattle.cy_target.proofs.EscapeLemmas.{escape_is}
 use Rattle.cy_target.proofs.escapes.is_escape.Goals as goal

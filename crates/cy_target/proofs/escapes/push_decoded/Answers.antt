@@ -1,3 +1,4 @@
+-- What the tactics leave of the proof of `push_decoded`.
 use Rattle.std.proofs.Common.{arith}
 use Rattle.std.specs.Vec.{vec_capacity}
 use Rattle.percent_encoding.specs.Iter.{decoded_bytes}

@@ -1,3 +1,4 @@
+-- What the tactics leave of the proof of `push_unescaped`.
 use Rattle.std.proofs.Common.{◌∙◌, sym, ap, arith, length, length-append}
 use Rattle.percent_encoding.proofs.PercentLemmas.{length-percent_decode}
 use Rattle.cy_target.proofs.EscapeLemmas.{appended}

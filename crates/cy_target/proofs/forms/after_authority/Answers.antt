@@ -1,3 +1,4 @@
+-- What the tactics leave of the proof of `after_authority`.
 use Rattle.cy_target.proofs.FormLemmas.{authority_ends, authority_is_all}
 use Rattle.cy_target.proofs.forms.after_authority.Goals as goal
 

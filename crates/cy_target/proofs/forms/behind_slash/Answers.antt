@@ -1,3 +1,4 @@
+-- What the tactics leave of the proof of `behind_slash`.
 use Rattle.std.proofs.Common.{sym}
 use Rattle.cy_target.proofs.FormLemmas.{absolute_is}
 use Rattle.cy_target.proofs.forms.behind_slash.Goals as goal

@@ -1,3 +1,4 @@
+-- The law `unescaping_is_decoding`, by what is proved of it elsewhere.
 use Rattle.cy_target.proofs.EscapeLemmas.{unescaped_decodes}
 use Rattle.cy_target.proofs.laws.unescaping_is_decoding.Goals as goal
 

@@ -1,3 +1,4 @@
+-- What the tactics leave of the proof of `go_through`.
 use Rattle.std.proofs.Common.{arith}
 use Rattle.std.proofs.lemmas.Result.{err_from_is_err_and}
 use Rattle.cy_target.proofs.WalkLemmas.{enters, stays, leaves, leaves_root}

@@ -1,3 +1,4 @@
+-- What the tactics leave of the proof of `leave`.
 use Rattle.std.proofs.Common.{arith, rules}
 use Rattle.cy_target.proofs.WalkLemmas.{ends_there, goes_on}
 use Rattle.cy_target.proofs.segments.leave.Goals as goal

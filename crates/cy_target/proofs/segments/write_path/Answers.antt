@@ -1,3 +1,4 @@
+-- What the tactics leave of the proof of `write_path`.
 use Rattle.std.proofs.Common.{arith, rules}
 use Rattle.std.proofs.lemmas.Result.{err_from_is_err_and}
 use Rattle.cy_target.proofs.WalkLemmas.{walk_goes_on, walk_fails, walk_ends, walk_fails_last, ends_in_slash, ends_in_name}

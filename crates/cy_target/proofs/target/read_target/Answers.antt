@@ -1,3 +1,4 @@
+-- What the tactics leave of the proof of `read_target`.
 use Rattle.std.proofs.Common.{◌≡◌, List, ℕ, [], ◌∷◌, ◌++◌, true, false, Some, None, sym, ap, ◌∙◌}
 use Rattle.std.specs.Prelude.{is_some}
 use Rattle.cy_target.proofs.TargetLemmas.{star_is, asterisk_names, form_is_bad, path_is_bad, target_names, keeps_named, keeps_nothing}

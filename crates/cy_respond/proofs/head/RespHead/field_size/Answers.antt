@@ -1,3 +1,4 @@
+-- What the tactics leave of the proof of `RespHead::field_size`.
 use Rattle.std.proofs.Common.{arith, ap}
 use Rattle.cy_event.specs.Answers.{Answer}
 use Rattle.cy_respond.specs.Fields.{field_size}

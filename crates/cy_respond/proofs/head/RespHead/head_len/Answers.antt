@@ -1,3 +1,4 @@
+-- What the tactics leave of the proof of `RespHead::head_len`.
 use Rattle.std.proofs.Common.{arith, ap, ◌≤◌, ◌∙◌, length}
 use Rattle.std.specs.Prelude.{decimal}
 use Rattle.std.proofs.lemmas.Fmt.{length-decimal-le}

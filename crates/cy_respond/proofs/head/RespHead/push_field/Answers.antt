@@ -1,3 +1,4 @@
+-- What the tactics leave of the proof of `RespHead::push_field`.
 use Rattle.std.proofs.Common.{arith, ap, sym, subst, ◌≡◌, ◌++◌, ◌∷◌, ◌∙◌, [], ℕ, List, None, length, map, flat_map, vec_len}
 use Rattle.std.specs.List.{All, list_all}
 use Rattle.cy_event.specs.Answers.{Answer, field_line}

@@ -1,3 +1,4 @@
+-- What the tactics leave of the proof of `RespHead::write_head`.
 use Rattle.std.proofs.Common.{arith, ap, sym, ◌≡◌, ◌++◌, ◌∙◌, ℕ, List, append_assoc}
 use Rattle.cy_event.specs.AnswerModes.{framing_lines, head_of_shape}
 use Rattle.cy_rings.specs.Rings.{Rings}

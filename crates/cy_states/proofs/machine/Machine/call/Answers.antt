@@ -1,3 +1,4 @@
+-- What the tactics leave of the proof of `Machine::call`.
 use Rattle.std.proofs.Common.{◌≡◌, Some, true, false, arith}
 use Rattle.cy_event.specs.declared.table.Row.TheVariants.{On, Wake, Ends}
 use Rattle.cy_event.specs.Table.{row}
