@@ -1,4 +1,10 @@
 pub mod Causes
 pub mod Reads
 pub mod Writes
+pub mod LinkReads
+pub mod LinkWrites
+pub mod Doors
+pub mod Accepts
+pub mod Polls
+pub mod Starts
 pub mod Memory
