@@ -7,4 +7,10 @@ pub mod Doors
 pub mod Accepts
 pub mod Polls
 pub mod Starts
+pub mod Moments
+pub mod Clocks
+pub mod Items
 pub mod Memory
+pub mod MemoryLinks
+pub mod MemoryDoors
+pub mod MemoryPolls
