@@ -1,0 +1,10 @@
+//! The free slot numbers, which threads draw and give back.
+#![tactic(auto)]
+
+mod pool;
+mod rule;
+
+pub use pool::{NoMemory, Pool, Seat, Slip};
+
+#[cfg(test)]
+mod tests;
