@@ -43,9 +43,9 @@ adds cap pass v x all idle next items views room kept at =
           whole = (let s = total_set parts views pass v w at in omega (arith, s, k.whole));
           told = every_set (IsTold (n + 1)) views pass w ((λ h. ap (λ m. m + 1) size), (λ h. idle))
               (λ j u apart e.
-                let two = total_two parts views j pass u v apart e at in
-                let none : u.parts ≡ 0 = omega (arith, two, k.whole, all) in
-                ((λ some_part. absurd (omega (arith, none, some_part))), (k.told j u e).1));
+              let two = total_two parts views j pass u v apart e at in
+              let none : u.parts ≡ 0 = omega (arith, two, k.whole, all) in
+              ((λ some_part. absurd (omega (arith, none, some_part))), (k.told j u e).1));
           each = λ y.
               let s = total_set (has_out y) views pass v w at in
               let same : cond {A = ℕ} (x == y) 1 0 ≡ cond (n == y) 1 0 = ap (λ m. cond {A = ℕ} (m == y) 1 0) (next ∙ size) in

@@ -1,9 +1,14 @@
--- What callers see of a pool and of a seat. Own.
+-- What callers see of a pool, its keeper and a seat. Own.
 use Rattle.std.specs.Prelude.{ℕ, Option}
 use Rattle.atomic_table.specs.Seated.{TableId}
 
--- a pool: its name, how many numbers it has, and how many seats were made and not joined
+-- a pool: its name, and how many numbers it has
 pub record Stock : Type 0 where
+  pub name : TableId
+  pub slots : ℕ
+
+-- a keeper: the name of its pool, how many numbers that has, and how many seats were made and not joined
+pub record Keeping : Type 0 where
   pub name : TableId
   pub slots : ℕ
   pub seats : ℕ

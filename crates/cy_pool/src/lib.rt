@@ -4,7 +4,7 @@
 mod pool;
 mod rule;
 
-pub use pool::{NoMemory, Pool, Seat, Slip};
+pub use pool::{Keeper, NoMemory, Pool, Seat, Slip};
 
 #[cfg(test)]
 mod tests;

@@ -10,28 +10,44 @@ use std::sync::Wait;
 /// Memory ran out.
 pub type NoMemory = AllocError;
 
-/// The numbers below a count, of which each is in the pool or in one slip. Contracts see its name, how many numbers there
-/// are, and how many seats were made and not joined.
+/// The numbers below a count, of which each is in the pool or in one slip. Threads share it. Contracts see its name and how
+/// many numbers there are.
+#[derive(Drop)]
 pub struct Pool {
     numbers: Numbers,
-    keeper: Pass<u32, View>,
 }
 
 impl Model for Pool {
-    ghost use Rattle.std.specs.Prelude.{◌≡◌, ◌<◌, ◌≤◌, ◌-◌, ◌^◌, None};
-    ghost use Rattle.crossbeam_queue.specs.Passes.{view as view_in, IsPassOf, ruled_capacity};
-    ghost use Rattle.cy_pool.specs.Rule.{view_of};
+    ghost use Rattle.crossbeam_queue.specs.Passes.{ruled_capacity};
     ghost use Rattle.cy_pool.specs.Stocks.{Stock};
 
     ghost Value = { Stock };
 
-    ghost view = { λ p. record { name = p.numbers.table.shared.table_id; slots = ruled_capacity p.numbers; seats = 2 ^ 32 - (view_in p.keeper).parts } };
+    ghost view = { λ p. record { name = p.numbers.table.shared.table_id; slots = ruled_capacity p.numbers } };
+}
 
-    ghost invariant = { λ p. IsPassOf p.numbers p.keeper × (view_in p.keeper ≡ view_of (view_in p.keeper).parts (ruled_capacity p.numbers) None) × (0 < (view_in p.keeper).parts) × ((view_in p.keeper).parts ≤ 2 ^ 32) };
+/// The right to make seats of a pool, which stays with one thread at a time. Contracts see the name of the pool, how many
+/// numbers that has, and how many seats were made and not joined.
+#[derive(Drop)]
+pub struct Keeper {
+    pass: Pass<u32, View>,
+}
+
+impl Model for Keeper {
+    ghost use Rattle.std.specs.Prelude.{◌≡◌, ◌<◌, ◌≤◌, ◌-◌, ◌^◌, [], None};
+    ghost use Rattle.crossbeam_queue.specs.Passes.{view as view_in};
+    ghost use Rattle.cy_pool.specs.Stocks.{Keeping};
+
+    ghost Value = { Keeping };
+
+    ghost view = { λ k. record { name = k.pass.table_id; slots = (view_in k.pass).size; seats = 2 ^ 32 - (view_in k.pass).parts } };
+
+    ghost invariant = { λ k. (k.pass.me.1 ≡ []) × ((view_in k.pass).slip ≡ None) × (0 < (view_in k.pass).parts) × ((view_in k.pass).parts ≤ 2 ^ 32) };
 }
 
 /// The right of one place to have one slip at a time. It may go from thread to thread. Contracts see the name of the pool
 /// that made it, how many numbers that has, and the number of its slip.
+#[derive(Drop)]
 pub struct Seat {
     pass: Pass<u32, View>,
 }
@@ -71,39 +87,41 @@ impl Slip {
 }
 
 impl Pool {
-    /// All numbers below `slots`, in the pool. This alone takes memory.
-    pub fn new(alloc: Global, slots: u32) -> Result<Pool, NoMemory>
+    /// All numbers below `slots`, in the pool, with the right to make its seats. This alone takes memory.
+    pub fn new(alloc: Global, slots: u32) -> Result<(Pool, Keeper), NoMemory>
         requires { 0 < slots }
-        ensures { IfOk result (λ p. (p.slots ≡ slots) × (p.seats ≡ 0)) }
+        ensures slots { IfOk result (λ made. made.0.slots ≡ slots) }
+        ensures keeper { IfOk result (λ made. made.1 ≡ record { name = made.0.name; slots = slots; seats = 0 }) }
     {
-        let (numbers, mut keeper) = Numbers::ruled(alloc, slots as usize)?;
+        let (numbers, mut pass) = Numbers::ruled(alloc, slots as usize)?;
         for number in 0..slots {
-            if numbers.try_push_as::<Adds>(&mut keeper, number).is_err() {
+            if numbers.try_push_as::<Adds>(&mut pass, number).is_err() {
                 return Err(AllocError);
             }
         }
-        Ok(Pool { numbers, keeper })
+        Ok((Pool { numbers }, Keeper { pass }))
     }
 
     /// A seat, for one slip at a time.
-    pub fn seat(&mut self) -> Seat
-        requires { self.old.seats < 2 ^ 32 - 1 }
-        ensures pool { self.new ≡ record { name = self.old.name; slots = self.old.slots; seats = self.old.seats + 1 } }
-        ensures seat { result ≡ record { name = self.old.name; slots = self.old.slots; slip = None } }
+    pub fn seat(&self, keeper: &mut Keeper) -> Seat
+        requires made { keeper.old.name ≡ self.now.name }
+        requires few { keeper.old.seats < 2 ^ 32 - 1 }
+        ensures keeper { keeper.new ≡ record { name = keeper.old.name; slots = keeper.old.slots; seats = keeper.old.seats + 1 } }
+        ensures seat { result ≡ record { name = keeper.old.name; slots = keeper.old.slots; slip = None } }
     {
-        let pass = self.numbers.another::<OnePart>(&mut self.keeper);
+        let pass = self.numbers.another::<OnePart>(&mut keeper.pass);
         Seat { pass }
     }
 
     /// Takes a seat back.
-    pub fn join(&mut self, seat: Seat)
-        requires made { seat.name ≡ self.old.name }
+    pub fn join(&self, keeper: &mut Keeper, seat: Seat)
+        requires made { (keeper.old.name ≡ self.now.name) × (seat.name ≡ self.now.name) }
         requires idle { seat.slip ≡ None }
-        ensures { self.new ≡ record { name = self.old.name; slots = self.old.slots; seats = self.old.seats - 1 } }
+        ensures { keeper.new ≡ record { name = keeper.old.name; slots = keeper.old.slots; seats = keeper.old.seats - 1 } }
     {
         let Seat { pass } = seat;
-        self.numbers.absorb::<OnePart>(&mut self.keeper, pass);
-        self.numbers.learn_as::<Whole>(&mut self.keeper);
+        self.numbers.absorb::<OnePart>(&mut keeper.pass, pass);
+        self.numbers.learn_as::<Whole>(&mut keeper.pass);
     }
 
     /// Draws a number. `None` only where none was in the pool at a moment of this call.
@@ -131,6 +149,3 @@ impl Pool {
         }
     }
 }
-
-// A `&Pool` gives no access to the kept pass, so that threads may share it.
-unsafe impl Sync for Pool {}

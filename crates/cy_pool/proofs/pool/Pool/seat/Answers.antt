@@ -5,6 +5,6 @@ use Rattle.cy_pool.proofs.pool.Pool.seat.Goals as goal
 
 pub another-pass-requires-clause-rule : goal.another-pass-requires-clause-rule
 another-pass-requires-clause-rule c =
-    let keeper = view c.self.inside.keeper in
-    let seats : 2 ^ 32 - keeper.parts ≡ c.args.self.now.seats = ap (λ s. s.seats) c.self.view_is in
-    forks _ _ (omega (arith, seats, c.requires))
+    let known = view c.keeper.inside.pass in
+    let seats : 2 ^ 32 - known.parts ≡ c.args.keeper.now.seats = ap (λ s. s.seats) c.keeper.view_is in
+    forks _ _ (omega (arith, seats, c.requires.few))
