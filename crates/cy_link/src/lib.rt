@@ -38,4 +38,6 @@ pub use source::{Read, Source};
 pub use task::{Spawner, Task};
 
 #[cfg(test)]
+mod link_tests;
+#[cfg(test)]
 mod tests;

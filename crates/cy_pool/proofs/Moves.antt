@@ -1,12 +1,10 @@
 -- Each move keeps the rule of the free numbers.
-use Rattle.std.proofs.Common.{◌≡◌, ◌≢◌, ℕ, ◌+◌, ◌-◌, ◌<◌, ◌≤◌, ◌^◌, ◌==◌, cond, List, [], ◌∷◌, ◌++◌, length, set, None, Some, refl, ap, sym, ◌∙◌, subst, arith, inl, inr, ◌⊎◌}
-use mathlib.Core.Option.{some, some-ne-none}
-use lib.ListN.{get_elem?}
+use Rattle.std.proofs.Common.{◌≡◌, ℕ, ◌+◌, ◌-◌, ◌<◌, ◌≤◌, ◌^◌, ◌==◌, cond, [], ◌∷◌, length, set, None, Some, refl, ap, sym, ◌∙◌, arith}
+use mathlib.Core.Option.{some-ne-none}
 use Rattle.std.proofs.lemmas.List.{length_push}
 use Rattle.crossbeam_queue.specs.Fifo.{Pushes, Pops, Forks, Merges, Learns}
-use Rattle.crossbeam_queue.proofs.Lists.{at_set}
 use Rattle.cy_pool.specs.declared.rule.View.{View}
-use Rattle.cy_pool.specs.Rule.{view_of, times, has, is_out, total, once_below, IsTold, Keeps, AreKept}
+use Rattle.cy_pool.specs.Rule.{view_of, has, is_out, IsTold, AreKept}
 use Rattle.cy_pool.proofs.Totals.{total_set, total_le, total_two, total_push, times_push, below_none, below_more, below_from, itself, every_set, every_push}
 
 abbrev parts : View → ℕ

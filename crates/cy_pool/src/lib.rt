@@ -1,6 +1,7 @@
 //! The free slot numbers, which threads draw and give back.
 #![tactic(auto)]
 
+pub mod laws;
 mod pool;
 mod rule;
 

@@ -1,4 +1,4 @@
-use Rattle.std.proofs.Common.{rules, ap, ◌∙◌, sym}
+use Rattle.std.proofs.Common.{ap, sym}
 use Rattle.cy_pool.proofs.Moves.{begins, adds}
 use Rattle.cy_pool.proofs.pool.Pool.new.Goals as goal
 

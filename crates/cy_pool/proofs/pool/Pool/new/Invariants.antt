@@ -1,5 +1,5 @@
 use Rattle.std.proofs.Common.{◌≡◌, ◌^◌, None}
-use Rattle.crossbeam_queue.specs.Passes.{view, IsPassOf, ruled_capacity}
+use Rattle.crossbeam_queue.specs.Passes.{view, IsPassOf}
 use Rattle.cy_pool.specs.Rule.{view_of}
 use Rattle.cy_pool.proofs.pool.Pool.new.Given as goal
 
