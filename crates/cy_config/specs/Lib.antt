@@ -2,3 +2,4 @@ pub mod Members
 pub mod Kept
 pub mod Meaning
 pub mod Texts
+pub mod Printing

@@ -3,11 +3,13 @@
 
 mod fault;
 mod members;
+mod printing;
 mod reading;
 mod rules;
 mod settings;
 mod values;
 
 pub use fault::SetFault;
+pub use printing::print_settings;
 pub use reading::read_settings;
-pub use settings::Settings;
+pub use settings::{Settings, TOLD};
