@@ -1,3 +1,4 @@
+pub mod Built
 pub mod Lines
 pub mod Requests
 mod Openings

@@ -11,19 +11,25 @@ use Rattle.cy_event.specs.declared.steps.Event.{Event}
 use Rattle.cy_event.specs.declared.steps.Event.TheVariants as event
 use Rattle.cy_event.specs.declared.steps.Reply.{Reply}
 use Rattle.cy_event.specs.declared.steps.Reply.TheVariants as reply
-use Rattle.cy_model.specs.Entries.{event_mark, event_reply, is_closed_by, is_closed_to, rested_event, room, sent_of}
+use Rattle.cy_model.specs.Entries.{event_marks, event_reply, is_closed_by, is_closed_to, rested_event, room, sent_of}
 use Rattle.cy_model.specs.Folds.{answer_of, begin_text, bytes_of, cause_of, connection_by, consumed, earlier, finish_by, has_ended, is_broken, is_gone, is_kept, minor_of_request, output, took, unread, unsent, unsent_by}
 use Rattle.cy_model.specs.Marks.{Mark, ended, came, sent, began, refused, over, caused, TakenUp, Trace}
 use Rattle.cy_model.specs.Settling.{after_move, end_marks_by, first_move, front_of, is_awaited, may_begin, quiet_step, rested, with_marks}
+use Rattle.cy_model.specs.Unbuilt.{NothingUnbuilt, is_unbuilt_cause, is_unbuilt_request}
 use Rattle.cy_model.proofs.Settlings.{may_begin-parts, rested-done, rested-step, unread-began}
 use Rattle.cy_model.proofs.Gone.{may_not_begin}
 use Rattle.cy_proc.specs.Lines.{LineParts, line_parts, IsSound, NoneLater, Represents}
 use Rattle.cy_proc.specs.LineChanges.{after_begin, after_end_of, after_event, after_refusal, after_rest, after_told, at_moment, cause_after, ends_at_rest, event_answer, is_closed_line, told_answer}
 use Rattle.cy_proc.specs.LineAnswers.{AnswersEvent}
+use Rattle.cy_proc.proofs.Built.{built_more, not_broken}
 
 -- what holds at the parts of a trace holds at each value that stands for it
 pub at_parts : (T : Trace) (l : LineParts) (P : LineParts → Type 0) → Represents T l → (Represents T (line_parts l.moment T) → P (line_parts l.moment T)) → P l
 at_parts T l P s h = subst P (sym s.same) (h (record { same = refl; sound = s.sound; none_later = s.none_later }))
+
+-- nothing breaks so far
+pub whole : {T : Trace} → IsSound T → is_broken T ≡ false
+whole {T} s = not_broken T s.built
 
 -- ---- moments
 
@@ -73,7 +79,7 @@ came_stands t b T l by s = record {
   sound = record {
     consumed_came = omega (arith, s.sound.consumed_came, length-append (bytes_of T) b);
     took_written = s.sound.took_written;
-    whole = s.sound.whole;
+    built = built_more t (came b) T refl s.sound.built;
   };
   none_later = marks_by t l.moment (came b ∷ []) T by s.none_later;
 }
@@ -81,7 +87,7 @@ came_stands t b T l by s = record {
 ended_stands : (t : ℕ) (T : Trace) (l : LineParts) → t ≤ l.moment → Represents T l → Represents ((t, ended) ∷ T) (record l { has_ended = true })
 ended_stands t T l by s = record {
   same = ap (λ (k : LineParts). record k { has_ended = true }) s.same;
-  sound = record { consumed_came = s.sound.consumed_came; took_written = s.sound.took_written; whole = s.sound.whole };
+  sound = record { consumed_came = s.sound.consumed_came; took_written = s.sound.took_written; built = built_more t ended T refl s.sound.built };
   none_later = marks_by t l.moment (ended ∷ []) T by s.none_later;
 }
 
@@ -98,16 +104,16 @@ unsent-sent t n T whole =
 sent_stands : (t n : ℕ) (T : Trace) (l : LineParts) → t ≤ l.moment → n ≤ length (unsent T) → Represents T l → Represents ((t, sent n) ∷ T) (record l { unsent = drop n l.unsent })
 sent_stands t n T l by few s = record {
   same = ap (λ (k : LineParts). record k { unsent = drop n k.unsent }) s.same
-      ∙ ap (λ (u : List ℕ). record (line_parts l.moment T) { unsent = u }) (unsent-sent t n T s.sound.whole);
+      ∙ ap (λ (u : List ℕ). record (line_parts l.moment T) { unsent = u }) (unsent-sent t n T (whole s.sound));
   sound = record {
     consumed_came = s.sound.consumed_came;
-    took_written = omega (arith, s.sound.took_written, few, ap length (unsent_whole T s.sound.whole), length-drop (took T) (output T));
-    whole = s.sound.whole;
+    took_written = omega (arith, s.sound.took_written, few, ap length (unsent_whole T (whole s.sound)), length-drop (took T) (output T));
+    built = built_more t (sent n) T refl s.sound.built;
   };
   none_later = marks_by t l.moment (sent n ∷ []) T by s.none_later;
 }
 
-mark_stands : (t : ℕ) (e : Event) (b : List ℕ) (T : Trace) (l : LineParts) → t ≤ l.moment → Represents T l → Represents ((t, event_mark T e b) ∷ T) (after_event e b l)
+mark_stands : (t : ℕ) (e : Event) (b : List ℕ) (T : Trace) (l : LineParts) → t ≤ l.moment → Represents T l → Represents (with_marks t (event_marks T e b) T) (after_event e b l)
 mark_stands t event.In b T l by s =
     at_parts T l (λ k. Represents ((t, came (take (room T) b)) ∷ T) (after_event event.In b k)) s
     (λ own. came_stands t (take (room T) b) T (line_parts l.moment T) by own)
@@ -118,11 +124,11 @@ mark_stands t (event.Took n) b T l by s =
 
 -- ---- resting
 
-caused_stands : (t : ℕ) (k : CloseCause) (T : Trace) (l : LineParts) → t ≤ l.moment → cause_of T ≡ None → Represents T l → Represents ((t, caused k) ∷ T) (record l { cause = Some k })
-caused_stands t k T l by none s = record {
+caused_stands : (t : ℕ) (k : CloseCause) (T : Trace) (l : LineParts) → is_unbuilt_cause k ≡ false → t ≤ l.moment → cause_of T ≡ None → Represents T l → Represents ((t, caused k) ∷ T) (record l { cause = Some k })
+caused_stands t k T l built by none s = record {
   same = ap (λ (p : LineParts). record p { cause = Some k }) s.same
       ∙ ap (λ (c : Option CloseCause). record (line_parts l.moment T) { cause = earlier c k }) (sym none);
-  sound = record { consumed_came = s.sound.consumed_came; took_written = s.sound.took_written; whole = s.sound.whole };
+  sound = record { consumed_came = s.sound.consumed_came; took_written = s.sound.took_written; built = built_more t (caused k) T built s.sound.built };
   none_later = marks_by t l.moment (caused k ∷ []) T by s.none_later;
 }
 
@@ -145,7 +151,7 @@ rest_stands limits t T l by s =
           let may = (and_parts (may_begin T) (has_ended T && is_awaited (front_of limits T)) e).0 in
           let done = rested-done limits t R (quiet_by limits t R false (and_left (may_begin R) (has_ended R && is_awaited (front_of limits R)) (may_not_begin R (has_cause (cause_of T) InputEnd)))) in
           subst (λ (S : Trace). Represents S (record (line_parts l.moment T) { cause = Some InputEnd })) (sym (rested-step limits t T R (quiet_by limits t T true e) ∙ done))
-          (caused_stands t InputEnd T (line_parts l.moment T) by (may_begin-parts T may).1 own)
+          (caused_stands t InputEnd T (line_parts l.moment T) refl by (may_begin-parts T may).1 own)
       | false ↦ λ e. subst (λ (S : Trace). Represents S (line_parts l.moment T)) (sym (rested-done limits t T (quiet_by limits t T false e))) own
     ] refl)
 
@@ -159,19 +165,19 @@ answers_event (event.Took n) b m T = refl
 told_by : (limits : Limits) (t : ℕ) (e : Event) (b : List ℕ) (T : Trace) (l : LineParts) (v : Bool) → is_closed_to e T ≡ v → t ≤ l.moment → Represents T l → event_answer e b l ≡ event_reply T e b → AnswersEvent limits t e b T (if v then reply.Closed else event_answer e b l) (if v then l else after_rest limits (after_event e b l))
 told_by limits t e b T l true closed by s same = record {
   reply = sym (ap (λ (v : Bool). if v then reply.Closed else event_reply T e b) closed);
-  stands = subst (λ (S : Trace). Represents S l) (sym (ap (λ (v : Bool). if v then T else rested limits t ((t, event_mark T e b) ∷ T)) closed)) s;
+  stands = subst (λ (S : Trace). Represents S l) (sym (ap (λ (v : Bool). if v then T else rested limits t (with_marks t (event_marks T e b) T)) closed)) s;
 }
 told_by limits t e b T l false closed by s same = record {
   reply = same ∙ sym (ap (λ (v : Bool). if v then reply.Closed else event_reply T e b) closed);
-  stands = subst (λ (S : Trace). Represents S (after_rest limits (after_event e b l))) (sym (ap (λ (v : Bool). if v then T else rested limits t ((t, event_mark T e b) ∷ T)) closed))
-      (rest_stands limits t ((t, event_mark T e b) ∷ T) (after_event e b l) (subst (λ (m : ℕ). t ≤ m) (sym (marked_moment e b l)) by) (mark_stands t e b T l by s));
+  stands = subst (λ (S : Trace). Represents S (after_rest limits (after_event e b l))) (sym (ap (λ (v : Bool). if v then T else rested limits t (with_marks t (event_marks T e b) T)) closed))
+      (rest_stands limits t (with_marks t (event_marks T e b) T) (after_event e b l) (subst (λ (m : ℕ). t ≤ m) (sym (marked_moment e b l)) by) (mark_stands t e b T l by s));
 }
 
 told_answers : (limits : Limits) (t : ℕ) (e : Event) (b : List ℕ) (T : Trace) (l : LineParts) → t ≤ l.moment → Represents T l → AnswersEvent limits t e b T (told_answer e b l) (after_told limits e b l)
 told_answers limits t e b T l by s =
     at_parts T l (λ k. AnswersEvent limits t e b T (told_answer e b k) (after_told limits e b k)) s
     (λ own. told_by limits t e b T (line_parts l.moment T) (is_closed_line e (line_parts l.moment T))
-    (ap (λ (v : Bool). is_closed_by e (cause_of T) (has_ended T) (is_gone T) v) s.sound.whole) by own (answers_event e b l.moment T))
+    (ap (λ (v : Bool). is_closed_by e (cause_of T) (has_ended T) (is_gone T) v) (whole s.sound)) by own (answers_event e b l.moment T))
 
 -- an event that comes at the later of two moments, as a line takes it
 pub told_from : (limits : Limits) (at : ℕ) (e : Event) (b : List ℕ) (T : Trace) (old moved new : LineParts) (r : Reply) → Represents T old → moved ≡ at_moment at old → r ≡ told_answer e b moved → new ≡ after_told limits e b moved → AnswersEvent limits new.moment e b T r new
@@ -205,7 +211,7 @@ refused_stands status to_head T l none s =
     let m = l.moment in
     let R : Trace = (m, caused Refused) ∷ (m, refused status to_head) ∷ T in
     let text = refusal_text status to_head m in
-    let grown = unsent_grows T R text s.sound.whole s.sound.whole refl refl s.sound.took_written in
+    let grown = unsent_grows T R text (whole s.sound) (whole s.sound) refl refl s.sound.took_written in
     at_parts T l (λ k. Represents R (record k { unsent = k.unsent ++ refusal_text status to_head k.moment; cause = Some Refused })) s
     (λ own. record {
       same = ap (λ (u : List ℕ). record (line_parts m T) { unsent = u; cause = Some Refused }) (sym grown)
@@ -213,18 +219,18 @@ refused_stands status to_head T l none s =
       sound = record {
         consumed_came = s.sound.consumed_came;
         took_written = omega (arith, s.sound.took_written, length-append (output T) text);
-        whole = s.sound.whole;
+        built = built_more m (caused Refused) ((m, refused status to_head) ∷ T) refl (built_more m (refused status to_head) T refl s.sound.built);
       };
       none_later = marks_at (refused status to_head ∷ caused Refused ∷ []) T l s;
     })
 
 -- a request begins
-pub began_stands : (r : TakenUp) (T : Trace) (l : LineParts) → r.place ≡ consumed T → r.size ≤ length (unread T) → Represents T l → Represents ((l.moment, began r) ∷ T) (after_begin r.size r.go_on l)
-began_stands r T l at_place fits s =
+pub began_stands : (r : TakenUp) (T : Trace) (l : LineParts) → r.place ≡ consumed T → r.size ≤ length (unread T) → is_unbuilt_request r ≡ false → Represents T l → Represents ((l.moment, began r) ∷ T) (after_begin r.size r.go_on l)
+began_stands r T l at_place fits built s =
     let m = l.moment in
     let R : Trace = (m, began r) ∷ T in
     let text = begin_text r.go_on in
-    let grown = unsent_grows T R text s.sound.whole s.sound.whole refl refl s.sound.took_written in
+    let grown = unsent_grows T R text (whole s.sound) (whole s.sound) refl refl s.sound.took_written in
     at_parts T l (λ k. Represents R (after_begin r.size r.go_on k)) s
     (λ own. record {
       same = ap (λ (u : List ℕ). record (after_begin r.size r.go_on (line_parts m T)) { unread = u }) (sym (unread-began m T r at_place))
@@ -232,7 +238,7 @@ began_stands r T l at_place fits s =
       sound = record {
         consumed_came = omega (arith, s.sound.consumed_came, at_place, fits, length-drop (consumed T) (bytes_of T));
         took_written = omega (arith, s.sound.took_written, length-append (output T) text);
-        whole = s.sound.whole;
+        built = built_more m (began r) T built s.sound.built;
       };
       none_later = marks_at (began r ∷ []) T l s;
     })
@@ -251,12 +257,13 @@ over_stands T l s =
     let O : Trace = (m, over) ∷ T in
     let said = connection_by (is_kept T) (cause_of T) (minor_of_request T) in
     let text = answer_text (answer_of T) m said in
-    let written : output O ≡ output T ++ text = ap (λ (v : Bool). output T ++ finish_by v said (answer_of T) m) s.sound.whole in
-    let grown = unsent_grows T O text s.sound.whole s.sound.whole refl written s.sound.took_written in
-    let sound_of : (R : Trace) → consumed R ≡ consumed T → bytes_of R ≡ bytes_of T → took R ≡ took T → output R ≡ output O → is_broken R ≡ is_broken T → IsSound R = λ R a b c d e. record {
+    let written : output O ≡ output T ++ text = ap (λ (v : Bool). output T ++ finish_by v said (answer_of T) m) (whole s.sound) in
+    let grown = unsent_grows T O text (whole s.sound) (whole s.sound) refl written s.sound.took_written in
+    let over_built : NothingUnbuilt O = built_more m over T refl s.sound.built in
+    let sound_of : (R : Trace) → consumed R ≡ consumed T → bytes_of R ≡ bytes_of T → took R ≡ took T → output R ≡ output O → NothingUnbuilt R → IsSound R = λ R a b c d built. record {
       consumed_came = omega (arith, a, ap length b, s.sound.consumed_came);
       took_written = omega (arith, c, ap length (d ∙ written), s.sound.took_written, length-append (output T) text);
-      whole = e ∙ s.sound.whole;
+      built = built;
     } in
     at_parts T l (λ k. Represents (with_marks m (end_marks_by (is_kept T) (cause_of T)) T) (after_end_of (is_kept T) (minor_of_request T) (answer_of T) k)) s
     (λ own.
@@ -267,13 +274,13 @@ over_stands T l s =
       | true ↦ λ e. record {
         same = same ∙ ap (λ (c : Option CloseCause). record (line_parts m T) { unsent = unsent O; is_open = false; cause = c })
             (sym (cause_is (is_kept T) (cause_of T)) ∙ ap (λ (v : Bool). if v then cause_of T else earlier (cause_of T) LastAnswer) e);
-        sound = sound_of O refl refl refl refl refl;
+        sound = sound_of O refl refl refl refl over_built;
         none_later = marks_at (over ∷ []) T l s;
       }
       | false ↦ λ e. record {
         same = same ∙ ap (λ (c : Option CloseCause). record (line_parts m T) { unsent = unsent O; is_open = false; cause = c })
             (sym (cause_is (is_kept T) (cause_of T)) ∙ ap (λ (v : Bool). if v then cause_of T else earlier (cause_of T) LastAnswer) e);
-        sound = sound_of ((m, caused LastAnswer) ∷ O) refl refl refl refl refl;
+        sound = sound_of ((m, caused LastAnswer) ∷ O) refl refl refl refl (built_more m (caused LastAnswer) O refl over_built);
         none_later = marks_at (over ∷ caused LastAnswer ∷ []) T l s;
       }
     ] refl)

@@ -2,9 +2,10 @@
 use Rattle.std.specs.Prelude.{◌≡◌, ◌≤◌, ℕ, ◌+◌, Bool, false, List, All, Option, length}
 use Rattle.cy_event.specs.declared.steps.CloseCause.{CloseCause}
 use Rattle.cy_event.specs.Answers.{continue_text}
-use Rattle.cy_model.specs.Folds.{begun_count, bytes_of, cause_of, consumed, has_ended, is_broken, is_open, output, took, unread, unsent}
+use Rattle.cy_model.specs.Folds.{begun_count, bytes_of, cause_of, consumed, has_ended, is_open, output, took, unread, unsent}
 use Rattle.cy_model.specs.Marks.{Mark, Trace}
 use Rattle.cy_model.specs.Settling.{begin_bound}
+use Rattle.cy_model.specs.Unbuilt.{NothingUnbuilt}
 
 pub record LineParts : Type 0 where
   -- the bytes that wait, how many came in all, and how many requests were begun
@@ -37,11 +38,11 @@ line_parts moment T = record {
 abbrev pub open_bound : ℕ
 open_bound = begin_bound + length continue_text
 
--- no request took more bytes than came and the socket no more than was written; nothing breaks so far
+-- no request took more bytes than came and the socket no more than was written; no mark stands that isn't built
 pub record IsSound (T : Trace) : Type 0 where
   pub consumed_came : consumed T ≤ length (bytes_of T)
   pub took_written : took T ≤ length (output T)
-  pub whole : is_broken T ≡ false
+  pub built : NothingUnbuilt T
 
 -- no mark is later than this moment
 abbrev pub NoneLater : ℕ → Trace → Type 0
