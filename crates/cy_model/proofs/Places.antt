@@ -14,13 +14,12 @@ use Rattle.cy_map.specs.declared.rule.Rule.{Rule}
 use Rattle.cy_head.proofs.HeadGrowth.{heads_stay}
 use Rattle.cy_model.specs.Entries.{Entry, trace_of}
 use Rattle.cy_model.specs.Folds.{bytes_of, is_open, last_taken, requests_of}
-use Rattle.cy_model.specs.Inputs.{behind_head, consumed, consumed_by, given_count, has_whole_body, is_end_told, is_whole, scan_by, scan_of, unread, used, used_by_given}
+use Rattle.cy_model.specs.Inputs.{behind_head, consumed, consumed_by, given_count, has_whole_body, head_end, is_end_told, is_whole, scan_by, scan_of, unread, used, used_by_given}
 use Rattle.cy_model.specs.Laws.{AreAtTheirPlaces, AreInRow, Follows, HasBody, HeadsAreAtTheirPlaces, IsAtPlace, last_of}
 use Rattle.cy_model.specs.Marks.{Mark, came, began, TakenUp, Trace}
 use Rattle.cy_model.specs.Settling.{may_begin}
 use Rattle.cy_model.proofs.InputInduction.{KeptByInput, brings, kept_by_input}
 use Rattle.cy_model.proofs.Moves.{may_begin-parts, may_begin-whole}
-use Rattle.cy_model.proofs.Settlings.{head_end}
 use Rattle.cy_model.proofs.TraceInduction.{IsTakenAt, trace_keeps}
 
 -- ---- bodies that are whole

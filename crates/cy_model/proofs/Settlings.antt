@@ -15,7 +15,7 @@ use Rattle.cy_model.proofs.Moves.{IsCauseMove, IsEndMove, IsReturnMove, end_keep
 use Rattle.cy_model.proofs.Repeats.{Falls, IsFirstOf, until_none-none, until_none-rests, until_none-bound, until_none-step, until_none-first, until_none-size, until_none-second, until_none-keeps}
 use Rattle.cy_model.specs.Endings.{end_marks, error_marks, failure_marks, fault_marks, fault_marks_by, hears_fault, server_error}
 use Rattle.cy_model.specs.Folds.{begun_count, bytes_of, cause_of, earlier, has_ended, is_open, last_taken, state_of}
-use Rattle.cy_model.specs.Inputs.{consumed, consumed_by, has_whole_body, unread, used}
+use Rattle.cy_model.specs.Inputs.{consumed, consumed_by, head_end, has_whole_body, unread, used}
 use Rattle.cy_model.specs.Marks.{Mark, began, called, refused, error_answer, aborted, over, caused, TakenUp, Trace}
 use Rattle.cy_model.specs.Outputs.{is_committed, unsent}
 use Rattle.cy_model.specs.Settling.{with_marks, Move, first_move, after_move, begin_bound, cause_and_fault, may_begin, front_of, Due, nothing, refusal, not_found, request, due_by_front, due_by_verdict, due_of, due_move, head_move, is_awaited, end_move, last_answer_marks, next_move, quiet_moves, quiet_step, body_move, input_move, return_move, return_marks_in, settle_step, enough_moves, rested, taken_up, settled, rested_and_taken_up}
@@ -23,12 +23,7 @@ use Rattle.cy_model.specs.Verdicts.{turned_away, unserved, served, verdict_of, n
 
 -- ---- what is left to do
 
--- where the head of the last request ends
-abbrev pub head_end : Option TakenUp → ℕ
-head_end None = 0
-head_end (Some r) = r.place + r.size
-
--- the bytes behind it
+-- the bytes behind the head of the last request
 abbrev pub beyond : Trace → ℕ
 beyond T = length (bytes_of T) - head_end (last_taken T)
 

@@ -88,6 +88,11 @@ swallowed T = if is_open T then 0 else used T - used_at_end T
 
 -- ---- what waits
 
+-- where the head of the last request ends
+abbrev pub head_end : Option TakenUp → ℕ
+head_end None = 0
+head_end (Some r) = r.place + r.size
+
 -- how many of all bytes belong to the requests that were taken up
 abbrev pub consumed_by : Option TakenUp → ℕ → ℕ
 consumed_by None n = 0

@@ -1,33 +1,19 @@
--- No mark stands in a trace that no entry makes yet.
+-- A mark that is built, and what is due.
 use Rattle.std.proofs.Common.{◌≡◌, ℕ, Bool, true, false, ◌||◌, cond, List, [], ◌∷◌, Option, Some, None, refl, Ok, Err}
-use Rattle.std.proofs.lemmas.List.Elements.{All-cons, All-head, All-tail}
 use Rattle.cy_event.specs.declared.limits.Limits.{Limits}
 use Rattle.cy_event.specs.Framings.{Framed, framed, not_implemented}
 use Rattle.cy_event.specs.Heads.{Front, Head, awaited, found, malformed}
 use Rattle.cy_event.specs.Targets.{PathAndQuery, target_of}
 use Rattle.cy_map.specs.declared.rule.Rule.{Rule}
 use Rattle.cy_map.specs.Mapping.{mapped}
-use Rattle.cy_model.specs.Folds.{is_broken}
-use Rattle.cy_model.specs.Marks.{Mark, TakenUp, Trace, broken}
+use Rattle.cy_model.specs.Marks.{Mark, TakenUp, Trace}
 use Rattle.cy_model.specs.Settling.{Due, nothing, refusal, not_found, request, due_by_front, due_by_verdict}
 use Rattle.cy_model.specs.Unbuilt.{NothingUnbuilt, is_unbuilt, is_unbuilt_request}
 use Rattle.cy_model.specs.Verdicts.{Verdict, turned_away, unserved, served, by_framing, by_rule, by_target, is_connect, is_framed, is_head_method, is_unbuilt as is_unbuilt_head, verdict_of}
 
 -- one mark more
 pub built_more : (t : ℕ) (m : Mark) (T : Trace) → is_unbuilt m ≡ false → NothingUnbuilt T → NothingUnbuilt ((t, m) ∷ T)
-built_more t m T built before = All-cons (λ (e : ℕ × Mark). is_unbuilt e.1 ≡ false) (t, m) T built before
-
--- ---- nothing breaks
-
-still_whole : (t : ℕ) (m : Mark) (T : Trace) → is_unbuilt m ≡ false → is_broken T ≡ false → is_broken ((t, m) ∷ T) ≡ false
-still_whole t broken T built whole = cc
-still_whole t m T built whole = whole
-
-pub not_broken : (T : Trace) → NothingUnbuilt T → is_broken T ≡ false
-not_broken [] built = refl
-not_broken ((t, m) ∷ T) built =
-    still_whole t m T (All-head (λ (e : ℕ × Mark). is_unbuilt e.1 ≡ false) (t, m) T built)
-    (not_broken T (All-tail (λ (e : ℕ × Mark). is_unbuilt e.1 ≡ false) (t, m) T built))
+built_more t m T built before = (built, before)
 
 -- ---- a request that is taken up has no body, and isn't one of HEAD
 

@@ -1,11 +1,11 @@
 -- A head that is taken up or refused: the parts that follow stand for the trace that follows.
-use Rattle.std.proofs.Common.{◌≡◌, ◌≤◌, inl, ℕ, ◌+◌, ◌<◌, ◌++◌, Bool, true, false, not, ◌&&◌, leb, List, [], ◌∷◌, length, map, Option, Some, None, is_none, refl, sym, ap, ◌∙◌, subst, arith, length-drop, codes, bytes_eq, if◌then◌else◌}
+use Rattle.std.proofs.Common.{◌≡◌, ◌≤◌, inl, ℕ, ◌+◌, ◌<◌, ◌++◌, Bool, true, false, not, ◌&&◌, ◌||◌, leb, List, [], ◌∷◌, length, map, Option, Some, None, is_none, refl, sym, ap, ◌∙◌, subst, arith, length-drop, codes, bytes_eq, if◌then◌else◌}
 use Rattle.std.proofs.lemmas.Bool.{and_parts}
 use Rattle.std.proofs.lemmas.List.{append-nil}
 use Rattle.cy_event.specs.declared.limits.Limits.{Limits}
 use Rattle.cy_event.specs.declared.steps.CloseCause.{CloseCause}
 use Rattle.cy_event.specs.declared.steps.CloseCause.TheVariants.{InputEnd, Refused}
-use Rattle.cy_event.specs.Answers.{error_answer as error_answer_of, fresh_answer}
+use Rattle.cy_event.specs.Answers.{Answer, error_answer as error_answer_of, fresh_answer}
 use Rattle.cy_event.specs.Charts.{chart_of}
 use Rattle.cy_event.specs.Framings.{bad_request}
 use Rattle.cy_event.specs.Heads.{Head, Front, awaited, found, malformed, head_of}
@@ -15,12 +15,17 @@ use Rattle.cy_event.proofs.Fronts.{front_length-bounds, head_of-found}
 use Rattle.cy_head.specs.Answers.{answer_to, just_read}
 use Rattle.cy_head.specs.declared.front.Front.TheVariants as answer
 use Rattle.cy_map.specs.declared.rule.Rule.{Rule}
-use Rattle.cy_model.specs.Folds.{begun_count, calls, cause_of, consumed, ended_charts, is_open, unread}
-use Rattle.cy_model.specs.Marks.{Mark, began, refused, error_answer, caused, TakenUp, Trace}
-use Rattle.cy_model.specs.Settling.{Due, nothing, refusal, not_found, request, due_by_front, due_by_verdict, due_move, due_of, end_marks_by, front_of, is_awaited, is_last_number, may_begin, begin_bound, rested, taken_up, with_marks, after_move}
+use Rattle.cy_event.specs.Answering.{beginning}
+use Rattle.cy_model.specs.Folds.{begun_count, calls, cause_of, ended_charts, is_open}
+use Rattle.cy_model.specs.Inputs.{consumed, unread}
+use Rattle.cy_model.specs.Outputs.{asked_of, unsent}
+use Rattle.cy_model.specs.Marks.{Mark, began, refused, error_answer, over, caused, TakenUp, Trace}
+use Rattle.cy_model.specs.Settling.{Due, nothing, refusal, not_found, request, due_by_front, due_by_verdict, due_move, due_of, front_of, is_awaited, is_last_number, last_answer_marks, may_begin, may_begin_by, begin_bound, rested, taken_up, with_marks, after_move}
 use Rattle.cy_model.specs.Unbuilt.{is_unbuilt_request}
-use Rattle.cy_model.specs.Verdicts.{Verdict, turned_away, unserved, served, is_head_method, not_found_status, verdict_of}
-use Rattle.cy_model.proofs.Settlings.{DueTakes, due_takes, may_begin-parts}
+use Rattle.cy_model.specs.Verdicts.{Verdict, turned_away, unserved, served, is_framed, is_head_method, not_found_status, verdict_of}
+use Rattle.cy_model.proofs.Built.{has_whole}
+use Rattle.cy_model.proofs.Moves.{may_begin-parts}
+use Rattle.cy_model.proofs.Settlings.{DueTakes, due_takes}
 use Rattle.cy_target.specs.Kept.{with_target}
 use Rattle.cy_proc.specs.Judging.{IsVerdict}
 use Rattle.cy_proc.specs.declared.verdict.Judgement.TheVariants as judged
@@ -28,10 +33,10 @@ use Rattle.cy_proc.specs.Lines.{LineParts, Represents}
 use Rattle.cy_proc.specs.LineChanges.{after_begin, after_end_of, after_refusal, after_rest, ends_at_rest, front_at, is_due, causes_left, may_begin_line, work_of}
 use Rattle.cy_proc.specs.ProcessorAnswers.{Serves, ServesAfter, TakesUp, ended_items}
 use Rattle.cy_proc.specs.ProcessorChanges.{due_at, due_of_head, line_with, processor_with, with_request}
-use Rattle.cy_proc.specs.Processors.{IsIdle, IsOfRequest, IsServiceAlone, ProcessorParts, RequestFolds, StandsFor, fresh_processor, is_open_at, request_folds, service_by, stage_by, waiting_content}
+use Rattle.cy_proc.specs.Processors.{IsIdle, IsOfRequest, IsServiceAlone, ProcessorParts, RequestFolds, StandsFor, fresh_processor, is_open_at, request_folds, service_by, stage_by, uncut, waiting_content}
 use Rattle.cy_proc.specs.declared.processor.Stage.TheVariants as stage
 use Rattle.cy_proc.proofs.Built.{IsBuiltDue, built_more, due_built}
-use Rattle.cy_proc.proofs.Lines.{began_stands, marks_at, over_stands, refused_stands, rest_moment, rest_stands}
+use Rattle.cy_proc.proofs.Lines.{began_stands, marks_at, over_stands, plainly, refused_stands, rest_moment, rest_stands}
 use Rattle.cy_proc.proofs.Requests.{ended_serves, head_kept, over_ends, rested_same, stands_idle, stands_same}
 
 -- ---- what the code does
@@ -131,6 +136,8 @@ refusal_parts limits status to_head T t closed = record {
     running = sym (ap (λ (v : Bool). service_by v false 0) closed);
     calls = λ o. refl;
     answer = λ o. refl;
+    few = λ o. omega arith;
+    sending = λ o. refl;
   };
 }
 
@@ -139,13 +146,14 @@ refusal_taken limits T status to_head l idle none s =
     let m = l.moment in
     let R : Trace = (m, caused Refused) ∷ (m, refused status to_head) ∷ T in
     let q : ProcessorParts = record (fresh_processor limits) { stage = stage.Refused } in
-    let same = rested_same limits m R in
+    let stood = refused_stands status to_head T l idle.closed none s in
+    let same = rested_same limits m R (plainly R stood.sound) in
     record {
       marks = refused status to_head ∷ caused Refused ∷ [];
       moved = refl;
       follows = record {
         serves = record {
-          line = rest_stands limits m R (after_refusal status to_head l) (omega arith) (refused_stands status to_head T l none s);
+          line = rest_stands limits m R (after_refusal status to_head l) (omega arith) stood;
           processor = stands_same R (rested limits m R) q same (inl (refusal_parts limits status to_head T m idle.closed));
         };
         charts = ap (map chart_of) same.charts ∙ sym (append-nil (ended_items T));
@@ -153,26 +161,51 @@ refusal_taken limits T status to_head l idle none s =
     }
 
 -- how long the head of a request is
-size_within : (limits : Limits) (T : Trace) (r : TakenUp) → front_of limits T ≡ found r.size r.head → r.size ≤ length (unread T)
-size_within limits T r front = (front_length-bounds (unread T) r.size (head_of-found limits.max_head limits.max_fields (unread T) r.size r.head front)).1
+size_bounds : (limits : Limits) (T : Trace) (r : TakenUp) → front_of limits T ≡ found r.size r.head → (1 ≤ r.size) × (r.size ≤ length (unread T))
+size_bounds limits T r front = front_length-bounds (unread T) r.size (head_of-found limits.max_head limits.max_fields (unread T) r.size r.head front)
+
+-- the request isn't one of HEAD
+not_head : (r : TakenUp) → is_unbuilt_request r ≡ false → is_head_method r.head ≡ false
+not_head r built = of_either (is_framed r.framing) (is_head_method r.head) built
+  where
+    of_either : (a b : Bool) → (a || b) ≡ false → b ≡ false
+    of_either true b e = cc
+    of_either false b e = e
+
+-- how its answer begins, with this content
+begins_uncut : (r : TakenUp) (a : Answer) → is_unbuilt_request r ≡ false → record (beginning (asked_of r)) { waiting = a.content } ≡ uncut r.head.minor r.keep a
+begins_uncut r a built =
+    ap (λ (v : Bool). record (beginning (record { minor = r.head.minor; is_head = v; keep = r.keep })) { waiting = a.content }) (not_head r built)
 
 -- a request that was just taken up
-begun_alone : (r : TakenUp) (T : Trace) (t : ℕ) → IsServiceAlone (request_folds ((t, began r) ∷ T))
-begun_alone r T t = record { minor = refl; begun = refl; taken = λ o. refl; state = refl; running = refl; calls = λ o. refl; answer = λ o. refl }
+begun_alone : (r : TakenUp) (T : Trace) (t : ℕ) → is_unbuilt_request r ≡ false → IsServiceAlone (request_folds ((t, began r) ∷ T))
+begun_alone r T t built = record {
+  minor = refl;
+  begun = refl;
+  taken = λ o. refl;
+  state = refl;
+  running = refl;
+  calls = λ o. refl;
+  answer = λ o. refl;
+  few = λ o. omega arith;
+  sending = λ o. begins_uncut r fresh_answer built;
+}
 
-request_taken : (limits : Limits) (T : Trace) (r : TakenUp) (l : LineParts) → r.place ≡ consumed T → front_of limits T ≡ found r.size r.head → is_unbuilt_request r ≡ false → Represents T l → Taken limits T (request r) l (after_rest limits (after_begin r.size r.go_on l)) (with_request stage.Owed r (fresh_processor limits))
-request_taken limits T r l place front built s =
+request_taken : (limits : Limits) (T : Trace) (r : TakenUp) (l : LineParts) → r.place ≡ consumed T → front_of limits T ≡ found r.size r.head → is_unbuilt_request r ≡ false → cause_of T ≡ None → Represents T l → Taken limits T (request r) l (after_rest limits (after_begin r.size r.go_on l)) (with_request stage.Owed r (fresh_processor limits))
+request_taken limits T r l place front built none s =
     let m = l.moment in
     let R : Trace = (m, began r) ∷ T in
     let q : ProcessorParts = with_request stage.Owed r (fresh_processor limits) in
-    let same = rested_same limits m R in
-    let stands : StandsFor R q = inl (record { same = refl; alone = begun_alone r T m }) in
+    let bounds = size_bounds limits T r front in
+    let stood = began_stands r T l place bounds.1 built none bounds.0 s in
+    let same = rested_same limits m R (plainly R stood.sound) in
+    let stands : StandsFor R q = inl (record { same = refl; alone = begun_alone r T m built }) in
     record {
       marks = began r ∷ [];
       moved = refl;
       follows = record {
         serves = record {
-          line = rest_stands limits m R (after_begin r.size r.go_on l) (omega arith) (began_stands r T l place (size_within limits T r front) built s);
+          line = rest_stands limits m R (after_begin r.size r.go_on l) (omega arith) stood;
           processor = stands_same R (rested limits m R) q same stands;
         };
         charts = ap (map chart_of) same.charts ∙ sym (append-nil (ended_items T));
@@ -182,32 +215,48 @@ request_taken limits T r l place front built s =
 error_mark : (T : Trace) (l : LineParts) → Represents T l → Represents ((l.moment, error_answer not_found_status) ∷ T) l
 error_mark T l s = record {
   same = s.same;
-  sound = record { consumed_came = s.sound.consumed_came; took_written = s.sound.took_written; built = built_more l.moment (error_answer not_found_status) T refl s.sound.built };
+  sound = record {
+    heads_came = s.sound.heads_came;
+    took_past = s.sound.took_past;
+    built = built_more l.moment (error_answer not_found_status) T refl s.sound.built;
+    calm = s.sound.calm;
+  };
   none_later = marks_at (error_answer not_found_status ∷ []) T l s;
 }
 
 not_found_taken : (limits : Limits) (T : Trace) (r : TakenUp) (l : LineParts) → r.place ≡ consumed T → front_of limits T ≡ found r.size r.head → is_unbuilt_request r ≡ false → cause_of T ≡ None → Represents T l → Taken limits T (not_found r) l (after_rest limits (after_end_of r.keep r.head.minor (error_answer_of not_found_status) (after_begin r.size r.go_on l))) (with_request stage.Over r (fresh_processor limits))
 not_found_taken limits T r l place front built none s =
     let m = l.moment in
+    let a = error_answer_of not_found_status in
     let S : Trace = (m, error_answer not_found_status) ∷ (m, began r) ∷ T in
-    let R : Trace = with_marks m (end_marks_by r.keep None) S in
+    let R : Trace = with_marks m (over ∷ last_answer_marks r.keep) S in
     let q : ProcessorParts = with_request stage.Over r (fresh_processor limits) in
     let k : LineParts = after_begin r.size r.go_on l in
-    let begun : Represents S k = error_mark ((m, began r) ∷ T) k (began_stands r T l place (size_within limits T r front) built s) in
-    let line : Represents R (after_end_of r.keep r.head.minor (error_answer_of not_found_status) k) =
-    subst (λ (c : Option CloseCause). Represents (with_marks m (end_marks_by r.keep c) S) (after_end_of r.keep r.head.minor (error_answer_of not_found_status) k)) none
-    (over_stands S k begun) in
-    let ends = over_ends m r.keep None S in
+    let bounds = size_bounds limits T r front in
+    let begun : Represents S k = error_mark ((m, began r) ∷ T) k (began_stands r T l place bounds.1 built none bounds.0 s) in
+    let line : Represents R (after_end_of r.keep r.head.minor a k) =
+    over_stands S k r.head.minor r.keep a (begins_uncut r a built) refl refl refl none begun in
+    let ends = over_ends m r.keep S in
     let stands : IsOfRequest (request_folds R) q =
     subst (λ (f : RequestFolds). IsOfRequest f q) (sym ends.folds) (record {
       same = refl;
-      alone = record { minor = refl; begun = refl; taken = λ o. cc; state = refl; running = refl; calls = λ o. cc; answer = λ o. cc };
+      alone = record {
+        minor = refl;
+        begun = refl;
+        taken = λ o. cc;
+        state = refl;
+        running = refl;
+        calls = λ o. cc;
+        answer = λ o. cc;
+        few = λ o. cc;
+        sending = λ o. cc;
+      };
     }) in
     let charts : ended_charts R ≡ ended_charts T ++ calls R ∷ [] = ends.charts ∙ sym (ap (λ (f : RequestFolds). ended_charts T ++ f.calls ∷ []) ends.folds) in
     record {
-      marks = began r ∷ error_answer not_found_status ∷ end_marks_by r.keep None;
+      marks = began r ∷ error_answer not_found_status ∷ over ∷ last_answer_marks r.keep;
       moved = refl;
-      follows = ended_serves limits m T R (after_end_of r.keep r.head.minor (error_answer_of not_found_status) k) q refl stands charts (omega arith) line;
+      follows = ended_serves limits m T R (after_end_of r.keep r.head.minor a k) q refl stands charts (omega arith) line;
     }
 
 -- whatever is due, but for nothing
@@ -216,7 +265,7 @@ unfolding DueTakes IsBuiltDue at_place
 due_taken limits T nothing l some takes built closed none s = absurd (some refl)
 due_taken limits T (refusal status to_head) l some takes built closed none s = refusal_taken limits T status to_head l closed none s
 due_taken limits T (not_found r) l some takes built closed none s = not_found_taken limits T (record r { place = consumed T }) l refl takes.0 built none s
-due_taken limits T (request r) l some takes built closed none s = request_taken limits T (record r { place = consumed T }) l refl takes.0 built s
+due_taken limits T (request r) l some takes built closed none s = request_taken limits T (record r { place = consumed T }) l refl takes.0 built none s
 
 not_both : (v : Bool) → not v ≡ true → v ≡ true → ⊥
 not_both true e f = cc
@@ -243,7 +292,9 @@ open_takes limits rules T l taken new p q free due s begun held rests =
     let d = due_by_front limits rules 0 (begun_count T + 1) (front_of limits T) in
     let place = consumed T in
     let at_trace : due_at limits rules l ≡ d = ap (λ (k : LineParts). due_at limits rules k) s.line.same in
-    let due_trace : (may_begin T && not (is_awaited (front_of limits T))) ≡ true = ap (λ (k : LineParts). is_due limits k) (sym s.line.same) ∙ due in
+    let due_trace : (may_begin T && not (is_awaited (front_of limits T))) ≡ true =
+    ap (λ (v : Bool). may_begin_by (is_open T) (cause_of T) v (unsent T) && not (is_awaited (front_of limits T))) (has_whole T (plainly T s.line.sound))
+    ∙ ap (λ (k : LineParts). is_due limits k) (sym s.line.same) ∙ due in
     let tests = and_parts (may_begin T) (not (is_awaited (front_of limits T))) due_trace in
     let free_now = may_begin-parts T tests.0 in
     let idle : IsIdle (request_folds T) = stands_idle T p (ap (λ (k : ProcessorParts). is_open_at k.stage) free) s.processor in

@@ -1,5 +1,5 @@
 -- What is kept of a request, and which traces that stands for.
-use Rattle.std.specs.Prelude.{◌≡◌, ◌⊎◌, ℕ, Bool, true, false, ◌&&◌, ◌||◌, List, [], ◌∷◌, Option, Some, None, is_some, if◌then◌else◌}
+use Rattle.std.specs.Prelude.{◌≡◌, ◌≤◌, ◌⊎◌, ℕ, length, Bool, true, false, ◌&&◌, ◌||◌, List, [], ◌∷◌, Option, Some, None, is_some, if◌then◌else◌}
 use Rattle.cy_event.specs.declared.limits.Limits.{Limits}
 use Rattle.cy_event.specs.declared.steps.Call.{Call}
 use Rattle.cy_event.specs.declared.steps.Call.TheVariants as call
@@ -7,13 +7,16 @@ use Rattle.cy_event.specs.declared.steps.Job.{Job}
 use Rattle.cy_event.specs.declared.steps.Job.TheVariants as job
 use Rattle.cy_event.specs.declared.table.ChartItem.{ChartItem}
 use Rattle.cy_event.specs.declared.steps.State.{State}
-use Rattle.cy_event.specs.Answers.{Answer, after_put, fresh_answer}
+use Rattle.cy_event.specs.AnswerModes.{Asked}
+use Rattle.cy_event.specs.Answers.{Answer, after_put, content_buffer, fresh_answer}
 use Rattle.cy_event.specs.Heads.{Head}
 use Rattle.cy_event.specs.RequestHeads.{RequestParts, no_request}
 use Rattle.cy_event.specs.Table.{state_after}
 use Rattle.cy_event.specs.Targets.{target_of}
 use Rattle.cy_head.specs.Answers.{just_read}
-use Rattle.cy_model.specs.Folds.{answer_of, calls, is_kept, is_open, is_refused, is_served, minor_of_request, part_of, request_of, running, state_of}
+use Rattle.cy_event.specs.Answering.{Sending, beginning}
+use Rattle.cy_model.specs.Folds.{calls, is_open, is_refused, is_served, part_of, request_of, running, state_of}
+use Rattle.cy_model.specs.Outputs.{answer_of, sending_of}
 use Rattle.cy_model.specs.Marks.{TakenUp, Trace}
 use Rattle.cy_states.specs.Progress.{Progress, progress_of}
 use Rattle.cy_target.specs.Kept.{with_target}
@@ -62,12 +65,21 @@ pub record RequestFolds : Type 0 where
   pub running : Option Job
   pub is_served : Bool
   pub answer : Answer
+  pub sending : Sending
+
+abbrev pub minor_by : Option TakenUp → ℕ
+minor_by None = 0
+minor_by (Some r) = r.head.minor
+
+abbrev pub keep_by : Option TakenUp → Bool
+keep_by None = false
+keep_by (Some r) = r.keep
 
 abbrev pub request_folds : Trace → RequestFolds
 request_folds T = record {
   taken = request_of T;
-  minor = minor_of_request T;
-  keep = is_kept T;
+  minor = minor_by (request_of T);
+  keep = keep_by (request_of T);
   part = part_of T;
   calls = calls T;
   state = state_of T;
@@ -76,6 +88,7 @@ request_folds T = record {
   running = running T;
   is_served = is_served T;
   answer = answer_of T;
+  sending = sending_of T;
 }
 
 -- ---- the parts that this leaves
@@ -138,9 +151,13 @@ calls_by false = []
 abbrev pub service_by : Bool → Bool → ℕ → Option Job
 service_by is_open is_served part = if is_open && is_served then Some (job.Service part) else None
 
-abbrev pub minor_by : Option TakenUp → ℕ
-minor_by None = 0
-minor_by (Some r) = r.head.minor
+-- the request that is answered: it isn't one of HEAD
+abbrev pub asked_at : ℕ → Bool → Asked
+asked_at minor keep = record { minor = minor; is_head = false; keep = keep }
+
+-- an answer of which nothing is out: its content waits
+abbrev pub uncut : ℕ → Bool → Answer → Sending
+uncut minor keep a = record (beginning (asked_at minor keep)) { waiting = a.content }
 
 -- What holds of the last request while no callback but a service is begun, and no act but writes and returns is made.
 pub record IsServiceAlone (f : RequestFolds) : Type 0 where
@@ -154,6 +171,8 @@ pub record IsServiceAlone (f : RequestFolds) : Type 0 where
   pub calls : f.is_open ≡ true → f.calls ≡ calls_by f.is_served
   -- and its answer has nothing but content
   pub answer : f.is_open ≡ true → f.answer ≡ after_put f.answer.content fresh_answer
+  pub few : f.is_open ≡ true → length f.answer.content ≤ content_buffer
+  pub sending : f.is_open ≡ true → f.sending ≡ uncut f.minor f.keep f.answer
 
 -- no request is open, and no callback runs
 pub record IsIdle (f : RequestFolds) : Type 0 where

@@ -9,7 +9,7 @@ ghost use Rattle.cy_model.specs.Marks.{Trace};
 ghost use Rattle.cy_model.specs.Settling.{begin_bound};
 ghost use Rattle.cy_model.specs.Steps.{IsWithinBytes};
 ghost use Rattle.cy_proc.specs.LineChanges.{after_refusal, is_due, work_of};
-ghost use Rattle.cy_proc.specs.ProcessorAnswers.{AnswersEachAct, AnswersEachEvent, AnswersEachTurn, TakesUpEach};
+ghost use Rattle.cy_proc.specs.ProcessorAnswers.{AnswersEachAct, AnswersEachEvent, AnswersEachTurn, Serves, TakesUpEach};
 ghost use Rattle.cy_proc.specs.ProcessorChanges.{after_job, after_return, after_write, due_at, due_of_head, job_at, line_returned, line_with, processor_with, write_reply};
 ghost use Rattle.cy_proc.specs.Processors.{IsIdle, StandsFor, fresh_processor, has_request_at, is_open_at, is_over_at, request_folds};
 
@@ -187,7 +187,7 @@ impl Processor {
 
     /// The callback that is owed, where none runs.
     pub fn next_job(&self, _line: &Line) -> Option<Job>
-        ensures owed { (T : Trace) → StandsFor T self.now → result ≡ next_job T }
+        ensures owed { (T : Trace) → Serves T _line.now self.now → result ≡ next_job T }
         ensures job { result ≡ job_at self.now }
     {
         self.owed_job()
