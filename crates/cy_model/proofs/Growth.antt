@@ -7,14 +7,14 @@ use Rattle.cy_event.specs.Answers.{Answer, refusal_text}
 use Rattle.cy_event.specs.AnswerModes.{last_text, piece_text}
 use Rattle.cy_event.specs.Answering.{Answering, Commit, Took, after_finish, can_take, commit_by, cut, is_full, mode_in, more_by, push_byte, push_bytes, set_length_of, whole_length_of, with_head, with_piece, with_room}
 use Rattle.cy_model.specs.Folds.{bytes_of, calls, cause_of, earlier, ended_charts, requests_of}
-use Rattle.cy_model.specs.Outputs.{answer_of, answering_of, begin_text, finished_by, is_silent, output, said_by, writing}
+use Rattle.cy_model.specs.Outputs.{answer_of, answering_of, begin_text, finished_by, is_silent, output, said_by, unsent, writing}
 use Rattle.cy_model.specs.Laws.{NothingIsTakenBack, OnlyGrows}
 use Rattle.cy_model.specs.Marks.{Mark, came, sent, began, refused, put, flushed, over, caused, broken, Trace}
 use Rattle.cy_model.proofs.InputInduction.{KeptByInput, kept_by_input}
 use Rattle.cy_model.proofs.TraceInduction.{entry_keeps}
 
 -- the first list stands at the front of the second
-abbrev Begins : {X : Type 0} → List X → List X → Type 0
+abbrev pub Begins : {X : Type 0} → List X → List X → Type 0
 Begins {X} xs ys = (more : List X) × (ys ≡ xs ++ more)
 
 same_begins : {X : Type 0} (xs : List X) → Begins xs xs
@@ -111,24 +111,39 @@ same_output : (past xs : List ℕ) (n : ℕ) → Begins (past ++ xs) ((past ++ t
 same_output past xs n =
     ([], append_assoc past (take n xs) (drop n xs) ∙ ap (λ (l : List ℕ). past ++ l) (take-append-drop n xs) ∙ sym (append-nil (past ++ xs)))
 
+-- the socket takes of what waits, or it is dropped
+abbrev pub takes_output : Mark → Bool
+takes_output (sent n) = true
+takes_output broken = true
+takes_output m = false
+
+-- each other mark only adds to what waits
+pub unsent_begins : (t : ℕ) (m : Mark) (T : Trace) → takes_output m ≡ false → Begins (unsent T) (unsent ((t, m) ∷ T))
+unsent_begins t (sent n) T e = cc
+unsent_begins t broken T e = cc
+unsent_begins t (began r) T e = (begin_text r.go_on, refl)
+unsent_begins t (refused status to_head) T e = (refusal_text status to_head t, refl)
+unsent_begins t (put b) T e =
+    let a = answering_of T in
+    said_begins (cause_of T) a _ (push_begins (answer_of T) t b (said_by (cause_of T) a))
+unsent_begins t flushed T e =
+    let a = answering_of T in
+    said_begins (cause_of T) a _ (cut_begins (answer_of T) t (said_by (cause_of T) a))
+unsent_begins t over T e =
+    let a = answering_of T in
+    said_begins (cause_of T) a _ (end_begins (is_silent T) (answer_of T) t (said_by (cause_of T) a))
+unsent_begins t m T e = same_begins (unsent T)
+
+pub past_stays : (t : ℕ) (m : Mark) (T : Trace) → takes_output m ≡ false → (writing ((t, m) ∷ T)).past ≡ (writing T).past
+past_stays t (sent n) T e = cc
+past_stays t broken T e = cc
+past_stays t m T e = refl
+
 -- nothing is taken back of the output, whatever mark comes
 output_begins : (t : ℕ) (m : Mark) (T : Trace) → Begins (output T) (output ((t, m) ∷ T))
-output_begins t (began r) T = behind_past (writing T).past _ _ (begin_text r.go_on, refl)
-output_begins t (refused status to_head) T = behind_past (writing T).past _ _ (refusal_text status to_head t, refl)
-output_begins t (put b) T =
-    let a = answering_of T in
-    behind_past (writing T).past a.output _
-    (said_begins (cause_of T) a _ (push_begins (answer_of T) t b (said_by (cause_of T) a)))
-output_begins t flushed T =
-    let a = answering_of T in
-    behind_past (writing T).past a.output _ (said_begins (cause_of T) a _ (cut_begins (answer_of T) t (said_by (cause_of T) a)))
-output_begins t over T =
-    let a = answering_of T in
-    behind_past (writing T).past a.output _
-    (said_begins (cause_of T) a _ (end_begins (is_silent T) (answer_of T) t (said_by (cause_of T) a)))
 output_begins t (sent n) T = same_output (writing T).past (answering_of T).output n
 output_begins t broken T = ([], refl)
-output_begins t m T = same_begins (output T)
+output_begins t m T = behind_past (writing T).past (unsent T) (unsent ((t, m) ∷ T)) (unsent_begins t m T refl)
 
 -- no mark takes anything back
 bytes_begin : (t : ℕ) (m : Mark) (T : Trace) → Begins (bytes_of T) (bytes_of ((t, m) ∷ T))

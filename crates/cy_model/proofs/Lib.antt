@@ -17,6 +17,7 @@ pub mod BuiltKept
 pub mod BuiltInduction
 pub mod Waiting
 pub mod Growth
+pub mod ContainerMarks
 pub mod Turns
 pub mod Ends
 pub mod LastHeads

@@ -86,12 +86,12 @@ after_move-none t T None e = refl
 after_move-none t T (Some ms) e = cc
 
 -- a move before the last, and the last
-earlier_move : (moves : List Move) (last : Move) (ms : List Mark) → first_move moves ≡ Some ms → first_move (moves ++ last ∷ []) ≡ Some ms
+pub earlier_move : (moves : List Move) (last : Move) (ms : List Mark) → first_move moves ≡ Some ms → first_move (moves ++ last ∷ []) ≡ Some ms
 earlier_move [] last ms e = cc
 earlier_move (None ∷ moves) last ms e = earlier_move moves last ms e
 earlier_move (Some ns ∷ moves) last ms e = e
 
-last_move : (moves : List Move) (last : Move) → first_move moves ≡ None → first_move (moves ++ last ∷ []) ≡ last
+pub last_move : (moves : List Move) (last : Move) → first_move moves ≡ None → first_move (moves ++ last ∷ []) ≡ last
 last_move [] None e = refl
 last_move [] (Some ms) e = refl
 last_move (None ∷ moves) last e = last_move moves last e

@@ -22,7 +22,8 @@ use Rattle.cy_event.specs.Heads.{Head, found, head_of}
 use Rattle.cy_model.specs.Folds.{bytes_of, cause_of, charts, ended_charts, has_ended, is_open, is_served, request_of, requests_of, running}
 use Rattle.cy_model.specs.Inputs.{consumed, has_whole_body}
 use Rattle.cy_model.specs.Outputs.{is_gone, output}
-use Rattle.cy_model.specs.Marks.{TakenUp, Trace, began, over}
+use Rattle.cy_event.specs.declared.steps.Call.TheVariants as call
+use Rattle.cy_model.specs.Marks.{Mark, TakenUp, Trace, began, refused, called, error_answer, aborted, over, caused}
 use Rattle.cy_model.specs.Replies.{is_refusal, plain}
 use Rattle.cy_model.specs.Reports.{report}
 use Rattle.cy_model.specs.Runs.{IsLegalRun, answered}
@@ -64,6 +65,34 @@ NoHeadIsLost =
     (limits : Limits) (rules : List Rule) (entries : List (ℕ × Entry))
     → cause_of (trace_of limits rules entries) ≡ Some InputEnd
     → (has_whole_body (trace_of limits rules entries) ≡ false) ⊎ (is_awaited (front_of limits (trace_of limits rules entries)) ≡ true)
+
+-- ---- what the container does by itself
+
+-- its calls of the state table are Return and Fault alone
+abbrev pub is_containers_call : Call → Bool
+is_containers_call call.Return = true
+is_containers_call call.Fault = true
+is_containers_call k = false
+
+-- a mark that the container makes: it takes no bytes, delivers no content, runs no callback and accepts no act of one
+abbrev pub is_containers : Mark → Bool
+is_containers (began r) = true
+is_containers (refused status to_head) = true
+is_containers (called k part) = is_containers_call k
+is_containers (error_answer status) = true
+is_containers aborted = true
+is_containers over = true
+is_containers (caused k) = true
+is_containers m = false
+
+abbrev pub AllContainers : List Mark → Type 0
+AllContainers [] = Unit {0}
+AllContainers (m ∷ ms) = (is_containers m ≡ true) × AllContainers ms
+
+-- each move makes such marks alone
+abbrev pub MovesAreTheContainers : Type 0
+MovesAreTheContainers =
+    (limits : Limits) (rules : List Rule) (T : Trace) (ms : List Mark) → next_move limits rules T ≡ Some ms → AllContainers ms
 
 -- ---- the worked example
 
