@@ -92,8 +92,8 @@ unfolding chart_line digits
 cycles_are_counted = refl
 
 -- a further head is taken up while 16,000 bytes wait for the socket, and not while one more does
-at_the_bound : may_begin_by false None (replicate 16000 0) ≡ true
+at_the_bound : may_begin_by false None true (replicate 16000 0) ≡ true
 at_the_bound = ap (λ (n : ℕ). nat_le n 16000) (length-replicate {A = ℕ} 16000 0)
 
-past_the_bound : may_begin_by false None (replicate 16001 0) ≡ false
+past_the_bound : may_begin_by false None true (replicate 16001 0) ≡ false
 past_the_bound = ap (λ (n : ℕ). nat_le n 16000) (length-replicate {A = ℕ} 16001 0)

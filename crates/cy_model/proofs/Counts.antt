@@ -7,7 +7,7 @@ use Rattle.cy_event.specs.declared.steps.Step.TheVariants as step
 use Rattle.cy_map.specs.declared.rule.Rule.{Rule}
 use Rattle.cy_model.specs.Connections.{History, add_own, admits, connections, counted, moment, with_entry}
 use Rattle.cy_model.specs.Entries.{Entry, opening, on_event, on_run, on_act, tick, trace_of}
-use Rattle.cy_model.specs.Folds.{is_gone}
+use Rattle.cy_model.specs.Outputs.{is_gone}
 use Rattle.cy_model.specs.Laws.{LimitIsKept}
 use Rattle.cy_model.proofs.Gone.{gone_stays_gone}
 

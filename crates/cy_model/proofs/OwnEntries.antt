@@ -7,9 +7,9 @@ use Rattle.cy_event.specs.declared.steps.Reply.TheVariants as reply
 use Rattle.cy_event.specs.declared.steps.Step.{Step}
 use Rattle.cy_event.specs.declared.steps.Step.TheVariants as step
 use Rattle.cy_map.specs.declared.rule.Rule.{Rule}
-use Rattle.cy_model.specs.Connections.{History, Kind, add_own, admits, clock, admission, own, connections, counted, find_own, kind_of, moment, moment_after, with_entry, with_step}
-use Rattle.cy_model.specs.Entries.{Entry, opening, tick}
-use Rattle.cy_model.specs.Laws.{AddsOwn, AdmissionsOpenOne, ClockTicksForEach, FullOpensNone, OpensOne, OwnStepsAddOwnEntries}
+use Rattle.cy_model.specs.Connections.{History, Kind, add_own, admits, clock, admission, own, connections, counted, find_own, kind_of, own_reply, moment, moment_after, with_entry, with_step}
+use Rattle.cy_model.specs.Entries.{Entry, opening, tick, trace_of}
+use Rattle.cy_model.specs.Laws.{AddsOwn, AdmissionsOpenOne, ClockTicksForEach, FullOpensNone, OpensOne, OwnEntriesDecide, OwnStepsAddOwnEntries}
 use Rattle.cy_model.specs.Replies.{Replied, plain}
 
 -- one entry more
@@ -114,3 +114,11 @@ full_opens_none limits rules w c n replied =
     let hs = connections limits rules w in
     let new : History = record { number = c; entries = (moment w, opening) ∷ [] } in
     ap (λ (v : Bool). if v then hs ++ new ∷ [] else hs) (full (admits limits rules hs) (counted limits rules hs) n replied)
+
+-- ---- the trace and the replies
+
+pub own_entries_decide : OwnEntriesDecide
+own_entries_decide limits rules w v c same = record {
+  trace = ap (option_map (trace_of limits rules)) same;
+  replies = λ now e. ap (λ (o : Option (List (ℕ × Entry))). own_reply limits rules now o e) same;
+}

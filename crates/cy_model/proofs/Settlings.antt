@@ -1,44 +1,78 @@
 -- Settling comes to an end: each move leaves less to do, and the bound of the moves is never reached.
-use Rattle.std.proofs.Common.{◌≡◌, ℕ, ◌+◌, ◌*◌, ◌<◌, ◌≤◌, ◌⊎◌, inl, inr, ⊎_elim, Bool, true, false, not, ◌&&◌, leb, List, [], ◌∷◌, length, drop, Option, Some, None, is_none, refl, sym, ap, ◌∙◌, subst, arith, length-drop, cond, if◌then◌else◌}
+use Rattle.std.proofs.Common.{◌≡◌, ℕ, ◌+◌, ◌-◌, ◌*◌, ◌<◌, ◌≤◌, ◌⊎◌, inl, inr, ⊎_elim, Bool, true, false, not, ◌&&◌, leb, List, [], ◌∷◌, ◌++◌, length, drop, Option, Some, None, is_none, is_some, option_map, refl, sym, ap, ◌∙◌, subst, arith, length-drop, cond, if◌then◌else◌}
 use Rattle.std.proofs.lemmas.Bool.{and_parts}
-use Rattle.std.proofs.lemmas.List.{drop-drop}
 use Rattle.cy_event.specs.declared.limits.Limits.{Limits}
+use Rattle.cy_event.specs.declared.steps.Call.TheVariants as call
 use Rattle.cy_event.specs.declared.steps.CloseCause.{CloseCause}
 use Rattle.cy_event.specs.declared.steps.CloseCause.TheVariants.{InputEnd, LastAnswer, Refused}
+use Rattle.cy_event.specs.declared.steps.State.{State}
+use Rattle.cy_event.specs.declared.steps.State.TheVariants as state
 use Rattle.cy_event.specs.Heads.{Front, awaited, found, malformed}
+use Rattle.cy_event.specs.Table.{next_state, row}
 use Rattle.cy_map.specs.declared.rule.Rule.{Rule}
 use Rattle.cy_event.proofs.Fronts.{front_length-bounds, head_of-found}
+use Rattle.cy_model.proofs.Moves.{IsCauseMove, IsEndMove, IsReturnMove, end_keeps, quiet_cases, may_begin-parts, when_true}
 use Rattle.cy_model.proofs.Repeats.{Falls, IsFirstOf, until_none-none, until_none-rests, until_none-bound, until_none-step, until_none-first, until_none-size, until_none-second, until_none-keeps}
-use Rattle.cy_model.specs.Folds.{begun_count, bytes_of, cause_of, consumed, earlier, has_ended, is_open, unread, unsent}
-use Rattle.cy_model.specs.Marks.{Mark, began, refused, error_answer, caused, TakenUp, Trace}
-use Rattle.cy_model.specs.Settling.{with_marks, Move, first_move, after_move, begin_bound, may_begin, front_of, Due, nothing, refusal, not_found, request, due_by_front, due_by_verdict, due_of, due_move, end_marks_by, head_move, is_awaited, end_move, next_move, quiet_moves, quiet_step, settle_step, enough_moves, rested, taken_up, settled, rested_and_taken_up}
+use Rattle.cy_model.specs.Endings.{end_marks, error_marks, failure_marks, fault_marks, fault_marks_by, hears_fault, server_error}
+use Rattle.cy_model.specs.Folds.{begun_count, bytes_of, cause_of, earlier, has_ended, is_open, last_taken, state_of}
+use Rattle.cy_model.specs.Inputs.{consumed, consumed_by, head_end, has_whole_body, unread, used}
+use Rattle.cy_model.specs.Marks.{Mark, began, called, refused, error_answer, aborted, over, caused, TakenUp, Trace}
+use Rattle.cy_model.specs.Outputs.{is_committed, unsent}
+use Rattle.cy_model.specs.Settling.{with_marks, Move, first_move, after_move, begin_bound, cause_and_fault, may_begin, front_of, Due, nothing, refusal, not_found, request, due_by_front, due_by_verdict, due_of, due_move, head_move, is_awaited, end_move, last_answer_marks, next_move, quiet_moves, quiet_step, body_move, input_move, return_move, return_marks_in, settle_step, enough_moves, rested, taken_up, settled, rested_and_taken_up}
 use Rattle.cy_model.specs.Verdicts.{turned_away, unserved, served, verdict_of, not_found_status}
 
--- what is left to do: the bytes that wait, and a cause that may be set
-work_by : ℕ → Option CloseCause → ℕ
-work_by n None = 16 * n + 8
-work_by n (Some k) = 16 * n
+-- ---- what is left to do
 
-pub left_to_do : Trace → ℕ
-left_to_do T = work_by (length (unread T)) (cause_of T)
+-- the bytes behind the head of the last request
+abbrev pub beyond : Trace → ℕ
+beyond T = length (bytes_of T) - head_end (last_taken T)
 
-work_by-bounds : (n : ℕ) (cause : Option CloseCause) → (16 * n ≤ work_by n cause) × (work_by n cause ≤ 16 * n + 8)
-unfolding work_by
-work_by-bounds n None = (omega arith, omega arith)
-work_by-bounds n (Some k) = (omega arith, omega arith)
+-- how far an open request is from its end
+abbrev pub distance : Bool → State → ℕ
+distance true state.TimingOut = 3
+distance true state.Error = 2
+distance true state.Completing = 1
+distance v s = 0
+
+-- the bytes behind the last head, a cause that may be set, and the way to the end of the request
+abbrev pub work_by : ℕ → Option CloseCause → ℕ → ℕ
+work_by n None d = 16 * n + 8 + d
+work_by n (Some k) d = 16 * n + d
+
+abbrev pub left_to_do : Trace → ℕ
+left_to_do T = work_by (beyond T) (cause_of T) (distance (is_open T) (state_of T))
+
+distance-bound : (v : Bool) (s : State) → distance v s ≤ 3
+distance-bound true state.TimingOut = omega arith
+distance-bound true state.Error = omega arith
+distance-bound true state.Completing = omega arith
+distance-bound v s = omega arith
+
+work_by-bounds : (n : ℕ) (cause : Option CloseCause) (d : ℕ) → (16 * n + d ≤ work_by n cause d) × (work_by n cause d ≤ 16 * n + 8 + d)
+work_by-bounds n None d = (omega arith, omega arith)
+work_by-bounds n (Some k) d = (omega arith, omega arith)
 
 -- fewer bytes are less to do, whatever the causes are
-work_by-fewer : (n m : ℕ) (cause other : Option CloseCause) → n < m → work_by n cause < work_by m other
-work_by-fewer n m cause other h = omega (arith, h, work_by-bounds n cause, work_by-bounds m other)
+work_by-fewer : (n m : ℕ) (cause other : Option CloseCause) (d e : ℕ) → n < m → d ≤ 3 → work_by n cause d < work_by m other e
+work_by-fewer n m cause other d e h small = omega (arith, h, small, work_by-bounds n cause d, work_by-bounds m other e)
 
 -- a first cause is less to do
-work_by-cause : (n : ℕ) (k : CloseCause) (cause : Option CloseCause) → cause ≡ None → work_by n (earlier cause k) < work_by n cause
-unfolding work_by
-work_by-cause n k cause none = subst (λ (c : Option CloseCause). work_by n (earlier c k) < work_by n c) (sym none) (omega arith)
+work_by-cause : (n : ℕ) (k : CloseCause) (cause : Option CloseCause) (d e : ℕ) → cause ≡ None → d ≤ 3 → work_by n (earlier cause k) d < work_by n cause e
+work_by-cause n k cause d e none small = subst (λ (c : Option CloseCause). work_by n (earlier c k) d < work_by n c e) (sym none) (omega (arith, small))
+
+-- a step to the end is less to do
+work_by-nearer : (n : ℕ) (cause : Option CloseCause) (d e : ℕ) → d < e → work_by n cause d < work_by n cause e
+work_by-nearer n None d e h = omega (arith, h)
+work_by-nearer n (Some k) d e h = omega (arith, h)
+
+-- a cause may be set beside it
+work_by-ended : (n : ℕ) (cause : Option CloseCause) (k : CloseCause) (d e : ℕ) → d < e → work_by n (earlier cause k) d < work_by n cause e
+work_by-ended n None k d e h = omega (arith, h)
+work_by-ended n (Some j) k d e h = omega (arith, h)
 
 left_to_do-bound : (T : Trace) → left_to_do T ≤ enough_moves T
-unfolding left_to_do
-left_to_do-bound T = omega (arith, work_by-bounds (length (unread T)) (cause_of T), length-drop (consumed T) (bytes_of T))
+left_to_do-bound T =
+    omega (arith, work_by-bounds (beyond T) (cause_of T) (distance (is_open T) (state_of T)), distance-bound (is_open T) (state_of T))
 
 -- ---- steps
 
@@ -51,40 +85,17 @@ after_move-none : (t : ℕ) (T : Trace) (o : Move) → after_move t T o ≡ None
 after_move-none t T None e = refl
 after_move-none t T (Some ms) e = cc
 
-first_move-one : (o : Move) → first_move (o ∷ []) ≡ o
-first_move-one None = refl
-first_move-one (Some ms) = refl
+-- a move before the last, and the last
+pub earlier_move : (moves : List Move) (last : Move) (ms : List Mark) → first_move moves ≡ Some ms → first_move (moves ++ last ∷ []) ≡ Some ms
+earlier_move [] last ms e = cc
+earlier_move (None ∷ moves) last ms e = earlier_move moves last ms e
+earlier_move (Some ns ∷ moves) last ms e = e
 
--- the first of two moves
-two_before : (t : ℕ) (T R : Trace) (first second : Move) → after_move t T (first_move (first ∷ [])) ≡ Some R → after_move t T (first_move (first ∷ second ∷ [])) ≡ Some R
-two_before t T R None second e = cc
-two_before t T R (Some ms) second e = e
-
-two_after : (t : ℕ) (T : Trace) (first second : Move) → after_move t T (first_move (first ∷ [])) ≡ None → after_move t T (first_move (first ∷ second ∷ [])) ≡ after_move t T second
-two_after t T None second e = ap (after_move t T) (first_move-one second)
-two_after t T (Some ms) second e = cc
-
--- what applies where a test holds
-when_true : {X : Type 0} (v : Bool) (o : Option X) (x : X) → cond v o None ≡ Some x → (v ≡ true) × (o ≡ Some x)
-when_true true o x e = (refl, e)
-when_true false o x e = cc
-
--- ---- when a head may be taken up
-
-none_where : {X : Type 0} (o : Option X) → is_none o ≡ true → o ≡ None
-none_where None e = refl
-none_where (Some x) e = cc
-
-false_where : (v : Bool) → not v ≡ true → v ≡ false
-false_where true e = cc
-false_where false e = refl
-
--- no request is open, and there is no cause
-pub may_begin-parts : (T : Trace) → may_begin T ≡ true → (is_open T ≡ false) × (cause_of T ≡ None)
-may_begin-parts T e =
-    let closed = and_parts (not (is_open T)) (is_none (cause_of T) && leb (length (unsent T)) begin_bound) e in
-    let free = and_parts (is_none (cause_of T)) (leb (length (unsent T)) begin_bound) closed.1 in
-    (false_where (is_open T) closed.0, none_where (cause_of T) free.0)
+pub last_move : (moves : List Move) (last : Move) → first_move moves ≡ None → first_move (moves ++ last ∷ []) ≡ last
+last_move [] None e = refl
+last_move [] (Some ms) e = refl
+last_move (None ∷ moves) last e = last_move moves last e
+last_move (Some ns ∷ moves) last e = cc
 
 -- ---- what is due
 
@@ -127,51 +138,38 @@ head_move-some limits rules T ms e =
       marks = w.1;
     }
 
--- the end of the input is a cause to close: a head may be taken up and is awaited, and none can come
-pub record IsEndMove (limits : Limits) (T : Trace) : Type 0 where
-  pub may : may_begin T ≡ true
-  pub ended : has_ended T ≡ true
-  pub awaits : is_awaited (front_of limits T) ≡ true
-
-end_move-some : (limits : Limits) (T : Trace) (ms : List Mark) → end_move limits T ≡ Some ms → IsEndMove limits T × (ms ≡ caused InputEnd ∷ [])
-end_move-some limits T ms e =
-    let last : Bool = has_ended T && is_awaited (front_of limits T) in
-    let w = when_true (may_begin T && last) (Some (caused InputEnd ∷ [])) ms e in
-    let tests = and_parts (may_begin T) last w.0 in
-    let parts = and_parts (has_ended T) (is_awaited (front_of limits T)) tests.1 in
-    (record { may = tests.0; ended = parts.0; awaits = parts.1 }, cc)
-
 -- ---- each move leaves less to do
 
--- what waits after a head was taken up
-pub unread-began : (t : ℕ) (T : Trace) (r : TakenUp) → r.place ≡ consumed T → unread ((t, began r) ∷ T) ≡ drop r.size (unread T)
-unread-began t T r e = ap (λ n. drop (n + r.size) (bytes_of T)) e ∙ sym (drop-drop r.size (consumed T) (bytes_of T))
-
--- fewer bytes wait then
-fewer_wait : (limits : Limits) (t : ℕ) (T : Trace) (r : TakenUp) → front_of limits T ≡ found r.size r.head → r.place ≡ consumed T → length (unread ((t, began r) ∷ T)) < length (unread T)
-fewer_wait limits t T r front place =
+-- a head that is found stands in the bytes behind the last head
+fewer_beyond : (limits : Limits) (t : ℕ) (T : Trace) (r : TakenUp) → front_of limits T ≡ found r.size r.head → r.place ≡ consumed T
+    → beyond ((t, began r) ∷ T) < beyond T
+fewer_beyond limits t T r front place =
     let bounds = front_length-bounds (unread T) r.size (head_of-found limits.max_head limits.max_fields (unread T) r.size r.head front) in
-    omega (arith, bounds, ap length (unread-began t T r place), length-drop r.size (unread T))
+    omega (arith, bounds, place, length-drop (consumed T) (bytes_of T), head_before (last_taken T) (used T))
+  where
+    head_before : (o : Option TakenUp) (n : ℕ) → head_end o ≤ consumed_by o n
+    head_before None n = omega arith
+    head_before (Some r) n = omega arith
 
 due_falls : (limits : Limits) (t : ℕ) (T : Trace) (d : Due) (ms : List Mark) → cause_of T ≡ None → DueTakes (consumed T) (front_of limits T) d → due_move d ≡ Some ms → left_to_do (with_marks t ms T) < left_to_do T
-unfolding DueTakes left_to_do
+unfolding DueTakes
 due_falls limits t T nothing ms none takes e = cc
 due_falls limits t T (refusal status to_head) ms none takes e =
     let same : ms ≡ refused status to_head ∷ caused Refused ∷ [] = cc in
     subst (λ (ns : List Mark). left_to_do (with_marks t ns T) < left_to_do T) (sym same)
-    (work_by-cause (length (unread T)) Refused (cause_of T) none)
+    (work_by-cause (beyond T) Refused (cause_of T) _ _ none (distance-bound (is_open T) state.Dispatched))
 due_falls limits t T (not_found r) ms none takes e =
-    let same : ms ≡ began r ∷ error_answer not_found_status ∷ end_marks_by r.keep None = cc in
-    let fewer = fewer_wait limits t T r takes.0 takes.1 in
+    let same : ms ≡ began r ∷ error_answer not_found_status ∷ over ∷ last_answer_marks r.keep = cc in
+    let fewer = fewer_beyond limits t T r takes.0 takes.1 in
     subst (λ (ns : List Mark). left_to_do (with_marks t ns T) < left_to_do T) (sym same)
-    (elim r.keep as (λ v. left_to_do (with_marks t (began r ∷ error_answer not_found_status ∷ end_marks_by v None) T) < left_to_do T) [
-      | true ↦ work_by-fewer _ _ (cause_of T) (cause_of T) fewer
-      | false ↦ work_by-fewer _ _ (earlier (cause_of T) LastAnswer) (cause_of T) fewer
+    (elim r.keep as (λ v. left_to_do (with_marks t (began r ∷ error_answer not_found_status ∷ over ∷ last_answer_marks v) T) < left_to_do T) [
+      | true ↦ work_by-fewer _ _ (cause_of T) (cause_of T) 0 _ fewer (omega arith)
+      | false ↦ work_by-fewer _ _ (earlier (cause_of T) LastAnswer) (cause_of T) 0 _ fewer (omega arith)
     ])
 due_falls limits t T (request r) ms none takes e =
     let same : ms ≡ began r ∷ [] = cc in
     subst (λ (ns : List Mark). left_to_do (with_marks t ns T) < left_to_do T) (sym same)
-    (work_by-fewer _ _ (cause_of T) (cause_of T) (fewer_wait limits t T r takes.0 takes.1))
+    (work_by-fewer _ _ (cause_of T) (cause_of T) 0 _ (fewer_beyond limits t T r takes.0 takes.1) (omega arith))
 
 taken_up-falls : (limits : Limits) (rules : List Rule) (t : ℕ) → Falls left_to_do (taken_up limits rules t)
 taken_up-falls limits rules t T R e =
@@ -180,19 +178,68 @@ taken_up-falls limits rules t T R e =
     subst (λ (S : Trace). left_to_do S < left_to_do T) (sym w.2)
     (due_falls limits t T h.due w.0 (may_begin-parts T h.may).1 h.takes h.marks)
 
+-- a cause, with the fault that is told of it
+cause_falls : (t : ℕ) (T : Trace) (k : CloseCause) → cause_of T ≡ None → left_to_do (with_marks t (cause_and_fault T k) T) < left_to_do T
+cause_falls t T k none =
+    elim (hears_fault T) as (λ v. left_to_do (with_marks t (caused k ∷ fault_marks_by v) T) < left_to_do T) [
+      | true ↦ work_by-cause (beyond T) k (cause_of T) _ _ none (distance-bound (is_open T) (next_state (state_of T) call.Fault))
+      | false ↦ work_by-cause (beyond T) k (cause_of T) _ _ none (distance-bound (is_open T) (state_of T))
+    ]
+
+-- the way to the end becomes shorter by a return
+nearer : (o : Bool) (s to : State) → o ≡ true → s ≡ to → distance true (next_state to call.Return) < distance true to
+    → distance o (next_state s call.Return) < distance o s
+nearer o s to is_open is_state shorter = rw (is_open, is_state) shorter
+
+at_end : (o : Bool) (s : State) → o ≡ true → s ≡ state.Completing → 0 < distance o s
+at_end o s is_open is_state = rw (is_open, is_state) (omega arith)
+
+return_falls : (t : ℕ) (T : Trace) (s : State) (ms : List Mark) → is_open T ≡ true → state_of T ≡ s → return_marks_in s T ≡ Some ms
+    → left_to_do (with_marks t ms T) < left_to_do T
+return_falls t T state.TimingOut ms o s e =
+    let same : ms ≡ called call.Return None ∷ [] = cc in
+    subst (λ (ns : List Mark). left_to_do (with_marks t ns T) < left_to_do T) (sym same)
+    (work_by-nearer (beyond T) (cause_of T) _ _ (nearer (is_open T) (state_of T) state.TimingOut o s (omega arith)))
+return_falls t T state.Error ms o s e =
+    let same : ms ≡ called call.Return None ∷ failure_marks server_error T = cc in
+    let near = nearer (is_open T) (state_of T) state.Error o s (omega arith) in
+    subst (λ (ns : List Mark). left_to_do (with_marks t ns T) < left_to_do T) (sym same)
+    (elim (is_committed T) as (λ v. left_to_do (with_marks t (called call.Return None ∷ error_marks v server_error) T) < left_to_do T) [
+      | true ↦ work_by-nearer (beyond T) (cause_of T) _ _ near
+      | false ↦ work_by-nearer (beyond T) (cause_of T) _ _ near
+    ])
+return_falls t T state.Completing ms o s e =
+    let same : ms ≡ called call.Return None ∷ end_marks T = cc in
+    let near = at_end (is_open T) (state_of T) o s in
+    let R : Trace = (t, called call.Return None) ∷ T in
+    subst (λ (ns : List Mark). left_to_do (with_marks t ns T) < left_to_do T) (sym same)
+    (end_keeps (λ S. left_to_do S < left_to_do T) t T R
+    (record { plain = work_by-nearer (beyond T) (cause_of T) 0 _ near; closes = λ k q. work_by-ended (beyond T) (cause_of T) k 0 _ near })
+    (λ status. record { plain = work_by-nearer (beyond T) (cause_of T) 0 _ near; closes = λ k q. work_by-ended (beyond T) (cause_of T) k 0 _ near })
+    (record { plain = work_by-nearer (beyond T) (cause_of T) 0 _ near; closes = λ k q. work_by-ended (beyond T) (cause_of T) k 0 _ near }))
+return_falls t T s ms o is e = cc
+
+end_falls : (t : ℕ) (T : Trace) → cause_of T ≡ None → left_to_do ((t, caused InputEnd) ∷ T) < left_to_do T
+end_falls t T none = work_by-cause (beyond T) InputEnd (cause_of T) _ _ none (distance-bound (is_open T) (state_of T))
+
 quiet_step-falls : (limits : Limits) (t : ℕ) → Falls left_to_do (quiet_step limits t)
-unfolding left_to_do
 quiet_step-falls limits t T R e =
     let w = after_move-some t T R (first_move (quiet_moves limits T)) e in
-    let m = end_move-some limits T w.0 (sym (first_move-one (end_move limits T)) ∙ w.1) in
-    subst (λ (S : Trace). left_to_do S < left_to_do T) (sym (w.2 ∙ ap (λ (ms : List Mark). with_marks t ms T) m.1))
-    (work_by-cause (length (unread T)) InputEnd (cause_of T) (may_begin-parts T m.0.may).1)
+    subst (λ (S : Trace). left_to_do S < left_to_do T) (sym w.2)
+    (quiet_cases limits T w.0 (λ ms. left_to_do (with_marks t ms T) < left_to_do T)
+    (λ k m. cause_falls t T k m.none)
+    (λ ms m. return_falls t T (state_of T) ms m.open_now refl m.marks)
+    (λ m. end_falls t T (may_begin-parts T m.may).1)
+    w.1)
 
 -- a settling step is the first of the two that applies
 settle_step-two : (limits : Limits) (rules : List Rule) (t : ℕ) → IsFirstOf (settle_step limits rules t) (quiet_step limits t) (taken_up limits rules t)
 settle_step-two limits rules t = record {
-  before = λ T R e. two_before t T R (end_move limits T) (head_move limits rules T) e;
-  after = λ T e. two_after t T (end_move limits T) (head_move limits rules T) e;
+  before = λ T R e.
+      let w = after_move-some t T R (first_move (quiet_moves limits T)) e in
+      ap (after_move t T) (earlier_move (quiet_moves limits T) (head_move limits rules T) w.0 w.1) ∙ ap Some (sym w.2);
+  after = λ T e.
+      ap (after_move t T) (last_move (quiet_moves limits T) (head_move limits rules T) (after_move-none t T (first_move (quiet_moves limits T)) e));
 }
 
 -- it is one of the two
@@ -216,18 +263,26 @@ settled-step limits rules t T R e =
     until_none-step left_to_do (settle_step limits rules t) (settle_step-falls limits rules t) (enough_moves T) (enough_moves R) T R e (left_to_do-bound T) (left_to_do-bound R)
 
 -- what each move by these rules keeps is kept
-pub record KeepsMovesBy (limits : Limits) (rules : List Rule) (P : Trace → Type 0) : Type 0 where
+pub record KeepsQuietMoves (limits : Limits) (P : Trace → Type 0) : Type 0 where
+  pub causes : (t : ℕ) (k : CloseCause) (T : Trace) → IsCauseMove limits k T → P T → P (with_marks t (cause_and_fault T k) T)
+  pub returns : (t : ℕ) (T : Trace) (ms : List Mark) → IsReturnMove T ms → P T → P (with_marks t ms T)
   pub input_ends : (t : ℕ) (T : Trace) → IsEndMove limits T → P T → P ((t, caused InputEnd) ∷ T)
+
+pub record KeepsMovesBy (limits : Limits) (rules : List Rule) (P : Trace → Type 0) : Type 0 where
+  pub quiet : KeepsQuietMoves limits P
   pub heads : (t : ℕ) (T : Trace) (ms : List Mark) → head_move limits rules T ≡ Some ms → P T → P (with_marks t ms T)
+
+quiet_keeps : (limits : Limits) (t : ℕ) (P : Trace → Type 0) → KeepsQuietMoves limits P → (T R : Trace) → quiet_step limits t T ≡ Some R → P T → P R
+quiet_keeps limits t P k T R e p =
+    let w = after_move-some t T R (first_move (quiet_moves limits T)) e in
+    subst P (sym w.2)
+    (quiet_cases limits T w.0 (λ ms. P (with_marks t ms T)) (λ c m. k.causes t c T m p) (λ ms m. k.returns t T ms m p) (λ m. k.input_ends t T m p) w.1)
 
 step_keeps : (limits : Limits) (rules : List Rule) (t : ℕ) (P : Trace → Type 0) → KeepsMovesBy limits rules P → (T R : Trace)
     → settle_step limits rules t T ≡ Some R → P T → P R
 step_keeps limits rules t P k T R e p =
     ⊎_elim
-    (λ quiet.
-    let w = after_move-some t T R (first_move (quiet_moves limits T)) quiet in
-    let m = end_move-some limits T w.0 (sym (first_move-one (end_move limits T)) ∙ w.1) in
-    subst P (sym (w.2 ∙ ap (λ (ms : List Mark). with_marks t ms T) m.1)) (k.input_ends t T m.0 p))
+    (λ quiet. quiet_keeps limits t P k.quiet T R quiet p)
     (λ head.
     let w = after_move-some t T R (head_move limits rules T) head in
     subst P (sym w.2) (k.heads t T w.0 w.1 p))
@@ -238,28 +293,10 @@ unfolding settled
 settled-keeps-by limits rules t P k T p =
     until_none-keeps P (settle_step limits rules t) (step_keeps limits rules t P k) (enough_moves T) T p
 
--- the same, whatever the rules are
-pub record KeepsMoves (limits : Limits) (P : Trace → Type 0) : Type 0 where
-  pub input_ends : (t : ℕ) (T : Trace) → IsEndMove limits T → P T → P ((t, caused InputEnd) ∷ T)
-  pub heads : (t : ℕ) (T : Trace) (ms : List Mark) → IsHeadMove limits T ms → P T → P (with_marks t ms T)
-
-pub settled-keeps : (limits : Limits) (rules : List Rule) (t : ℕ) (P : Trace → Type 0) → KeepsMoves limits P → (T : Trace) → P T → P (settled limits rules t T)
-settled-keeps limits rules t P k T p =
-    settled-keeps-by limits rules t P
-    (record { input_ends = k.input_ends; heads = λ u S ms e. k.heads u S ms (head_move-some limits rules S ms e) })
-    T p
-
 -- the same of resting
-pub rested-keeps : (limits : Limits) (t : ℕ) (P : Trace → Type 0) → ((T : Trace) → IsEndMove limits T → P T → P ((t, caused InputEnd) ∷ T))
-    → (T : Trace) → P T → P (rested limits t T)
+pub rested-keeps : (limits : Limits) (t : ℕ) (P : Trace → Type 0) → KeepsQuietMoves limits P → (T : Trace) → P T → P (rested limits t T)
 unfolding rested
-rested-keeps limits t P ends T p =
-    until_none-keeps P (quiet_step limits t)
-    (λ S R e q.
-    let w = after_move-some t S R (first_move (quiet_moves limits S)) e in
-    let m = end_move-some limits S w.0 (sym (first_move-one (end_move limits S)) ∙ w.1) in
-    subst P (sym (w.2 ∙ ap (λ (ms : List Mark). with_marks t ms S) m.1)) (ends S m.0 q))
-    (enough_moves T) T p
+rested-keeps limits t P k T p = until_none-keeps P (quiet_step limits t) (quiet_keeps limits t P k) (enough_moves T) T p
 
 pub rested-step : (limits : Limits) (t : ℕ) (T R : Trace) → quiet_step limits t T ≡ Some R → rested limits t T ≡ rested limits t R
 unfolding rested
@@ -352,27 +389,33 @@ awaited_where_none limits rules place number (found n h) e =
       | served rule f ↦ λ d. cc
     ] e
 
--- of two moves neither applies
-second_none : (first second : Move) → first_move (first ∷ second ∷ []) ≡ None → second ≡ None
-second_none None None e = refl
-second_none None (Some ms) e = cc
-second_none (Some ms) second e = cc
+-- where no move applies, neither does the last, nor one before it
+none_before : (moves : List Move) (last : Move) → first_move (moves ++ last ∷ []) ≡ None → first_move moves ≡ None
+none_before [] last e = refl
+none_before (None ∷ moves) last e = none_before moves last e
+none_before (Some ms ∷ moves) last e = cc
 
-first_none : (first second : Move) → first_move (first ∷ second ∷ []) ≡ None → first ≡ None
-first_none None second e = refl
-first_none (Some ms) second e = cc
+none_last : (moves : List Move) (last : Move) → first_move (moves ++ last ∷ []) ≡ None → last ≡ None
+none_last moves last e = sym (last_move moves last (none_before moves last e)) ∙ e
+
+fourth_none : (a b c d : Move) → first_move (a ∷ b ∷ c ∷ d ∷ []) ≡ None → d ≡ None
+fourth_none None None None None e = refl
+fourth_none None None None (Some ms) e = cc
+fourth_none None None (Some ms) d e = cc
+fourth_none None (Some ms) c d e = cc
+fourth_none (Some ms) b c d e = cc
 
 -- where no move applies and a head may be taken up, it is awaited
 pub awaited_at_rest : (limits : Limits) (rules : List Rule) (T : Trace) → next_move limits rules T ≡ None → may_begin T ≡ true → is_awaited (front_of limits T) ≡ true
 awaited_at_rest limits rules T rests may =
     awaited_where_none limits rules (consumed T) (begun_count T + 1) (front_of limits T)
-    (sym (ap (λ (v : Bool). if v then due_move (due_of limits rules T) else None) may) ∙ second_none (end_move limits T) (head_move limits rules T) rests)
+    (sym (ap (λ (v : Bool). if v then due_move (due_of limits rules T) else None) may) ∙ none_last (quiet_moves limits T) (head_move limits rules T) rests)
 
 -- and the input has not ended
 pub goes_on_at_rest : (limits : Limits) (rules : List Rule) (T : Trace) → next_move limits rules T ≡ None → may_begin T ≡ true → has_ended T ≡ false
 goes_on_at_rest limits rules T rests may =
     by_tests (may_begin T) (has_ended T) (is_awaited (front_of limits T)) may (awaited_at_rest limits rules T rests may)
-    (first_none (end_move limits T) (head_move limits rules T) rests)
+    (fourth_none (body_move limits T) (input_move T) (return_move T) (end_move limits T) (none_before (quiet_moves limits T) (head_move limits rules T) rests))
   where
     by_tests : (may has_ended awaits : Bool) → may ≡ true → awaits ≡ true
         → (if may && (has_ended && awaits) then Some (caused InputEnd ∷ []) else None) ≡ None → has_ended ≡ false

@@ -1,5 +1,5 @@
 -- What the marks of every entry and every move keep holds of the trace of any entries.
-use Rattle.std.proofs.Common.{◌≡◌, ℕ, ◌+◌, Bool, true, false, ◌||◌, ◌&&◌, cond, ap, ◌∙◌, is_none, List, [], ◌∷◌, take, Option, Some, None, is_some, refl, sym, subst, if◌then◌else◌, ◌==◌}
+use Rattle.std.proofs.Common.{◌≡◌, ◌⊎◌, inl, inr, ℕ, ◌+◌, Bool, true, false, ◌||◌, ◌&&◌, ◌≤◌, ◌-◌, min, length, length-take, arith, cond, List, [], ◌∷◌, take, Option, Some, None, is_some, is_none, refl, sym, ap, ◌∙◌, subst, if◌then◌else◌, ◌==◌}
 use Rattle.cy_event.specs.declared.limits.Limits.{Limits}
 use Rattle.cy_event.specs.declared.steps.Act.{Act}
 use Rattle.cy_event.specs.declared.steps.Act.TheVariants as act
@@ -9,28 +9,47 @@ use Rattle.cy_event.specs.declared.steps.CloseCause.TheVariants.{InputEnd, LastA
 use Rattle.cy_event.specs.declared.steps.Event.{Event}
 use Rattle.cy_event.specs.declared.steps.Event.TheVariants as event
 use Rattle.cy_event.specs.declared.steps.Job.{Job}
-use Rattle.cy_event.specs.declared.steps.Job.TheVariants as job
 use Rattle.cy_event.specs.declared.steps.State.{State}
 use Rattle.cy_event.specs.declared.steps.State.TheVariants as state
+use Rattle.cy_event.specs.Callbacks.{makes_calls}
+use Rattle.cy_event.specs.Answers.{content_buffer}
 use Rattle.cy_event.specs.Heads.{found}
 use Rattle.cy_event.specs.Table.{is_end, row}
 use Rattle.cy_map.specs.declared.rule.Rule.{Rule}
-use Rattle.cy_model.specs.Entries.{Entry, opening, tick, on_event, on_run, on_act, after, after_act, after_callback, act_marks, end_marks, ended_count, event_marks, is_closed_act, is_closed_to, is_full, job_marks, open_act_marks, owed_after, return_marks, room, sent_of, trace_of, write_takes}
-use Rattle.cy_model.specs.Folds.{answer_of, begun_count, cause_of, consumed, is_gone, is_kept, is_open, is_served, part_of, running, state_of}
-use Rattle.cy_model.specs.Jobs.{job_in, next_job}
-use Rattle.cy_model.specs.Marks.{Mark, opened, ended, came, sent, back, began, refused, called, over, started, put, error_answer, caused, TakenUp, Trace}
-use Rattle.cy_model.specs.Settling.{Due, front_of, settled, with_marks, may_begin, end_marks_by, nothing, refusal, not_found, request, due_move, due_of, head_move}
+use Rattle.cy_model.specs.Endings.{end_marks, error_marks, failure_marks, fault_marks_by, hears_fault, server_error}
+use Rattle.cy_model.specs.Entries.{Entry, opening, tick, on_event, on_run, on_act, after, after_act, after_callback, act_marks, end_marks_where, ended_count, event_marks, is_closed_act, is_closed_to, is_full, job_marks, open_act_marks, owed_after, return_marks, run_marks, sent_of, trace_of, write_takes}
+use Rattle.cy_model.specs.Folds.{begun_count, cause_of, is_open, running, state_of}
+use Rattle.cy_model.specs.Inputs.{consumed, room}
+use Rattle.cy_model.specs.Jobs.{next_job}
+use Rattle.cy_model.specs.Marks.{Mark, opened, ended, came, sent, back, began, refused, called, over, started, put, error_answer, aborted, caused, TakenUp, Trace}
+use Rattle.cy_model.specs.Outputs.{answer_of, is_committed, is_gone}
+use Rattle.cy_model.specs.Settling.{Due, cause_and_fault, front_of, is_quiet, last_answer_marks, return_marks_in, settled, with_marks, may_begin, nothing, refusal, not_found, request, due_move, due_of, head_move}
 use Rattle.cy_model.specs.Verdicts.{not_found_status}
-use Rattle.cy_model.proofs.Settlings.{DueTakes, IsEndMove, due_takes, head_move-parts, settled-keeps-by}
+use Rattle.cy_model.proofs.Moves.{EndsWith, IsCauseMove, IsEndMove, IsReturnMove, end_keeps}
+use Rattle.cy_model.proofs.Settlings.{DueTakes, KeepsQuietMoves, due_takes, head_move-parts, settled-keeps-by}
 
 -- the marks of a request that no rule serves
 abbrev pub not_found_marks : TakenUp → List Mark
-not_found_marks r = began r ∷ error_answer not_found_status ∷ end_marks_by r.keep None
+not_found_marks r = began r ∷ error_answer not_found_status ∷ over ∷ last_answer_marks r.keep
 
 -- the head of a request is the one that stands at the front of the bytes that wait
 pub record IsTakenAt (limits : Limits) (r : TakenUp) (T : Trace) : Type 0 where
   pub front : front_of limits T ≡ found r.size r.head
   pub place : r.place ≡ consumed T
+
+-- no callback of an open request runs, waits or is owed, in this state
+pub record IsQuietIn (s : State) (T : Trace) : Type 0 where
+  pub open_now : is_open T ≡ true
+  pub quiet : is_quiet T ≡ true
+  pub here : state_of T ≡ s
+
+-- the container returned
+abbrev pub went_on : ℕ → Trace → Trace
+went_on t T = (t, called call.Return None) ∷ T
+
+-- a callback returned
+abbrev pub returned : ℕ → Trace → Trace
+returned t T = (t, called call.Return None) ∷ (t, back) ∷ T
 
 -- the marks of each thing that happens keep this
 pub record IsKept (limits : Limits) (rules : List Rule) (P : Trace → Type 0) : Type 0 where
@@ -38,7 +57,16 @@ pub record IsKept (limits : Limits) (rules : List Rule) (P : Trace → Type 0) :
   pub ends : (t : ℕ) (T : Trace) → P T → P ((t, ended) ∷ T)
   pub comes : (t : ℕ) (b : List ℕ) (T : Trace) → is_closed_to event.In T ≡ false → P T → P ((t, came b) ∷ T)
   pub sends : (t n : ℕ) (T : Trace) → P T → P ((t, sent n) ∷ T)
-  -- moves
+  -- a body, or the end of the input inside it, is a cause to close, and an open request may hear of it
+  pub causes : (t : ℕ) (k : CloseCause) (T : Trace) → IsCauseMove limits k T → P T → P ((t, caused k) ∷ T)
+  pub faults : (t : ℕ) (k : CloseCause) (T : Trace) → IsCauseMove limits k T → hears_fault T ≡ true → P T
+      → P ((t, called call.Fault None) ∷ (t, caused k) ∷ T)
+  -- the container returns
+  pub times_out : (t : ℕ) (T : Trace) → IsQuietIn state.TimingOut T → P T → P (went_on t T)
+  pub fails : (t : ℕ) (T : Trace) → IsQuietIn state.Error T → P T → P ((t, error_answer server_error) ∷ went_on t T)
+  pub breaks_off : (t : ℕ) (T : Trace) → IsQuietIn state.Error T → P T → P ((t, aborted) ∷ went_on t T)
+  pub completes : (t : ℕ) (T : Trace) → IsQuietIn state.Completing T → P T → P (with_marks t (end_marks T) (went_on t T))
+  -- heads, and the end of the input where one is awaited
   pub input_ends : (t : ℕ) (T : Trace) → IsEndMove limits T → P T → P ((t, caused InputEnd) ∷ T)
   pub refuses : (t status : ℕ) (to_head : Bool) (T : Trace) → may_begin T ≡ true → due_of limits rules T ≡ refusal status to_head → P T
       → P ((t, caused Refused) ∷ (t, refused status to_head) ∷ T)
@@ -47,8 +75,9 @@ pub record IsKept (limits : Limits) (rules : List Rule) (P : Trace → Type 0) :
   pub begins : (t : ℕ) (r : TakenUp) (T : Trace) → may_begin T ≡ true → IsTakenAt limits r T → due_of limits rules T ≡ request r → P T
       → P ((t, began r) ∷ T)
   -- callbacks
-  pub serves : (t part : ℕ) (T : Trace) → next_job T ≡ Some (job.Service part) → P T → P ((t, called call.Run None) ∷ (t, started (job.Service part)) ∷ T)
-  pub puts : (t : ℕ) (b : List ℕ) (T : Trace) → P T → P ((t, put b) ∷ T)
+  pub serves : (t : ℕ) (j : Job) (T : Trace) → next_job T ≡ Some j → P T → P (with_marks t (job_marks (Some j)) T)
+  -- as much content as the buffer has room for
+  pub puts : (t : ℕ) (j : Job) (b : List ℕ) (T : Trace) → running T ≡ Some j → length b ≤ content_buffer - length (answer_of T).content → P T → P ((t, put b) ∷ T)
   pub returns : (t : ℕ) (j : Job) (T : Trace) → running T ≡ Some j → P T → P (with_marks t (return_marks T) T)
 
 -- what holds of both of two traces holds of the one that a test chooses
@@ -56,37 +85,37 @@ pub either_way : (P : Trace → Type 0) (test : Bool) (T R : Trace) → P T → 
 either_way P true T R p q = p
 either_way P false T R p q = q
 
--- the same of the marks of an end, and of a return
-pub over_keeps : (P : Trace → Type 0) (t : ℕ) (keep : Bool) (cause : Option CloseCause) (T : Trace) → P ((t, over) ∷ T)
-    → P ((t, caused LastAnswer) ∷ (t, over) ∷ T) → P (with_marks t (end_marks_by keep cause) T)
-over_keeps P t keep cause T ends closes =
-    elim (keep || is_some cause) as (λ v. P (with_marks t (over ∷ cond v [] (caused LastAnswer ∷ [])) T)) [
-      | true ↦ ends
-      | false ↦ closes
+-- the same of the marks of each composite thing
+abbrev pub not_found_at : ℕ → TakenUp → Trace → Trace
+not_found_at t r T = (t, over) ∷ (t, error_answer not_found_status) ∷ (t, began r) ∷ T
+
+pub not_found_keeps : (P : Trace → Type 0) (t : ℕ) (r : TakenUp) (T : Trace) → P (not_found_at t r T) → P ((t, caused LastAnswer) ∷ not_found_at t r T)
+    → P (with_marks t (not_found_marks r) T)
+not_found_keeps P t r T kept closed =
+    elim r.keep as (λ v. P (with_marks t (began r ∷ error_answer not_found_status ∷ over ∷ last_answer_marks v) T)) [
+      | true ↦ kept
+      | false ↦ closed
     ]
 
-abbrev pub returned : ℕ → Trace → Trace
-returned t T = (t, called call.Return None) ∷ (t, back) ∷ T
+pub job_begins : (P : Trace → Type 0) (t : ℕ) (j : Job) (T : Trace) → (makes_calls j ≡ false → P ((t, started j) ∷ T))
+    → (makes_calls j ≡ true → P ((t, called call.Run None) ∷ (t, started j) ∷ T)) → P (with_marks t (job_marks (Some j)) T)
+job_begins P t j T alone calls =
+    elim (makes_calls j) as (λ v. makes_calls j ≡ v → P (with_marks t (started j ∷ run_marks v) T)) [
+      | true ↦ λ e. calls e
+      | false ↦ λ e. alone e
+    ] refl
 
-pub return_keeps : (P : Trace → Type 0) (t : ℕ) (T : Trace) → P (returned t T) → P ((t, over) ∷ returned t T)
-    → P ((t, caused LastAnswer) ∷ (t, over) ∷ returned t T) → P (with_marks t (return_marks T) T)
-return_keeps P t T goes_on ends closes =
-    elim (is_end (row (state_of T) call.Return)) as (λ v. P (with_marks t (end_marks v T) (returned t T))) [
-      | true ↦ over_keeps P t (is_kept T) (cause_of T) (returned t T) ends closes
-      | false ↦ goes_on
-    ]
+pub return_keeps : (P : Trace → Type 0) (t : ℕ) (T : Trace) → (is_end (row (state_of T) call.Return) ≡ false → P (returned t T))
+    → (is_end (row (state_of T) call.Return) ≡ true → P (with_marks t (end_marks T) (returned t T))) → P (with_marks t (return_marks T) T)
+return_keeps P t T goes_on ends =
+    elim (is_end (row (state_of T) call.Return)) as (λ v. is_end (row (state_of T) call.Return) ≡ v → P (with_marks t (end_marks_where v T) (returned t T))) [
+      | true ↦ λ e. ends e
+      | false ↦ λ e. goes_on e
+    ] refl
 
--- what is owed is a service
-job_in-service : (s : State) (served_now : Bool) (part : ℕ) (j : Job) → job_in s served_now part ≡ Some j → (n : ℕ) × (j ≡ job.Service n)
-job_in-service state.Dispatched false part j e = (part, cc)
-job_in-service s served_now part j e = cc
-
-service_owed : (T : Trace) (j : Job) → next_job T ≡ Some j → (part : ℕ) × (j ≡ job.Service part)
-service_owed T j e =
-    elim (is_open T && is_none (running T)) as (λ v. cond v (job_in (state_of T) (is_served T) (part_of T)) None ≡ Some j → (part : ℕ) × (j ≡ job.Service part)) [
-      | true ↦ λ q. job_in-service (state_of T) (is_served T) (part_of T) j q
-      | false ↦ λ q. cc
-    ] e
+-- what a write takes fits
+taken_fits : (n : ℕ) (b : List ℕ) (waiting : ℕ) → length (take (min n (content_buffer - waiting)) b) ≤ content_buffer - waiting
+taken_fits n b waiting = omega (arith, length-take (min n (content_buffer - waiting)) b)
 
 module _ (P : Trace → Type 0) (limits : Limits) (rules : List Rule) (k : IsKept limits rules P) where
   due_keeps : (t : ℕ) (T : Trace) (ms : List Mark) (d : Due) → due_of limits rules T ≡ d → may_begin T ≡ true
@@ -108,8 +137,38 @@ module _ (P : Trace → Type 0) (limits : Limits) (rules : List Rule) (k : IsKep
       let w = head_move-parts limits rules T ms e in
       due_keeps t T ms (due_of limits rules T) refl w.0 (due_takes limits rules (consumed T) (begun_count T + 1) (front_of limits T)) w.1 p
 
+  cause_keeps : (t : ℕ) (c : CloseCause) (T : Trace) → IsCauseMove limits c T → P T → P (with_marks t (cause_and_fault T c) T)
+  cause_keeps t c T m p =
+      elim (hears_fault T) as (λ v. hears_fault T ≡ v → P (with_marks t (caused c ∷ fault_marks_by v) T)) [
+        | true ↦ λ e. k.faults t c T m e p
+        | false ↦ λ e. k.causes t c T m p
+      ] refl
+
+  quiet_return_keeps : (t : ℕ) (T : Trace) (s : State) (ms : List Mark) → IsQuietIn s T → return_marks_in s T ≡ Some ms → P T → P (with_marks t ms T)
+  quiet_return_keeps t T state.TimingOut ms q e p =
+      let same : ms ≡ called call.Return None ∷ [] = cc in
+      subst (λ (ns : List Mark). P (with_marks t ns T)) (sym same) (k.times_out t T q p)
+  quiet_return_keeps t T state.Error ms q e p =
+      let same : ms ≡ called call.Return None ∷ failure_marks server_error T = cc in
+      subst (λ (ns : List Mark). P (with_marks t ns T)) (sym same)
+      (elim (is_committed T) as (λ v. P (with_marks t (called call.Return None ∷ error_marks v server_error) T)) [
+        | true ↦ k.breaks_off t T q p
+        | false ↦ k.fails t T q p
+      ])
+  quiet_return_keeps t T state.Completing ms q e p =
+      let same : ms ≡ called call.Return None ∷ end_marks T = cc in
+      subst (λ (ns : List Mark). P (with_marks t ns T)) (sym same) (k.completes t T q p)
+  quiet_return_keeps t T s ms q e p = cc
+
+  quiet_kept : KeepsQuietMoves limits P
+  quiet_kept = record {
+    causes = cause_keeps;
+    returns = λ t T ms m p. quiet_return_keeps t T (state_of T) ms (record { open_now = m.open_now; quiet = m.quiet; here = refl }) m.marks p;
+    input_ends = k.input_ends;
+  }
+
   settles : (t : ℕ) (T : Trace) → P T → P (settled limits rules t T)
-  settles t T p = settled-keeps-by limits rules t P (record { input_ends = k.input_ends; heads = head_keeps }) T p
+  settles t T p = settled-keeps-by limits rules t P (record { quiet = quiet_kept; heads = head_keeps }) T p
 
   mark_keeps : (t : ℕ) (T : Trace) (e : Event) (b : List ℕ) → is_closed_to e T ≡ false → P T → P (with_marks t (event_marks T e b) T)
   mark_keeps t T event.In b taken p = k.comes t (take (room T) b) T taken p
@@ -125,16 +184,14 @@ module _ (P : Trace → Type 0) (limits : Limits) (rules : List Rule) (k : IsKep
 
   job_keeps : (t : ℕ) (T : Trace) (o : Option Job) → next_job T ≡ o → P T → P (with_marks t (job_marks o) T)
   job_keeps t T None e p = p
-  job_keeps t T (Some j) e p =
-      let service = service_owed T j e in
-      subst (λ (i : Job). P (with_marks t (job_marks (Some i)) T)) (sym service.1) (k.serves t service.0 T (e ∙ ap Some service.1) p)
+  job_keeps t T (Some j) e p = k.serves t j T e p
 
   open_act_keeps : (t : ℕ) (j : Job) (T : Trace) (a : Act) (b : List ℕ) → running T ≡ Some j → P T → P (after_act limits rules t T (open_act_marks limits T a b))
   open_act_keeps t j T (act.Write n) b e p =
       let taken = take (write_takes (answer_of T) n) b in
       elim (is_full (answer_of T) n) as (λ v. P (after_act limits rules t T (cond v None (Some (put taken ∷ []))))) [
         | true ↦ p
-        | false ↦ settles t ((t, put taken) ∷ T) (k.puts t taken T p)
+        | false ↦ settles t ((t, put taken) ∷ T) (k.puts t j taken T e (taken_fits n b (length (answer_of T).content)) p)
       ]
   open_act_keeps t j T act.Return b e p = settles t (with_marks t (return_marks T) T) (k.returns t j T e p)
 

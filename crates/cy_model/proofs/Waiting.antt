@@ -1,35 +1,47 @@
 -- Whatever the entries of a connection are, no move is left to be made in its trace.
-use Rattle.std.proofs.Common.{◌≡◌, ◌≤◌, ℕ, Bool, true, false, not, ◌&&◌, ◌==◌, cond, leb, List, [], ◌∷◌, length, Option, Some, None, is_none, is_some, refl, ap}
-use Rattle.std.proofs.lemmas.Bool.{or_left}
+use Rattle.std.proofs.Common.{◌≡◌, ◌≤◌, ℕ, Bool, true, false, not, ◌&&◌, ◌==◌, cond, leb, List, [], ◌∷◌, length, Option, Some, None, is_none, is_some, option_map, refl, ap, ◌∙◌, if◌then◌else◌}
 use Rattle.cy_event.specs.declared.limits.Limits.{Limits}
-use Rattle.cy_event.specs.declared.steps.CloseCause.{CloseCause}
-use Rattle.cy_event.specs.declared.steps.CloseCause.TheVariants.{InputEnd, LastAnswer, Refused}
-use Rattle.cy_event.specs.declared.steps.Event.TheVariants as event
+use Rattle.cy_event.specs.declared.steps.Call.TheVariants as call
+use Rattle.cy_event.specs.declared.steps.CloseCause.TheVariants.{InputEnd}
 use Rattle.cy_event.specs.declared.steps.Job.{Job}
-use Rattle.cy_event.specs.Callbacks.{makes_calls}
 use Rattle.cy_event.specs.Heads.{Front, awaited, front_length}
 use Rattle.cy_map.specs.declared.rule.Rule.{Rule}
 use Rattle.cy_head.proofs.HeadFronts.{heads_are_awaited}
-use Rattle.cy_model.specs.Entries.{Entry, opening, tick, on_event, on_run, on_act, act_marks, after, after_act, ended_count, event_marks, is_closed_to, job_marks, owed_after, run_marks, trace_of}
-use Rattle.cy_model.specs.Folds.{cause_of, earlier, has_ended, is_gone, is_open, running, unsent}
+use Rattle.cy_model.specs.Entries.{Entry, opening, tick, on_event, on_run, on_act, act_marks, after, after_act, ended_count, event_marks, is_closed_to, job_marks, owed_after, trace_of}
+use Rattle.cy_model.specs.Folds.{cause_of, context_of, has_ended, is_open, parked_callback, running, state_of}
+use Rattle.cy_model.specs.Inputs.{has_whole_body}
 use Rattle.cy_model.specs.Jobs.{next_job}
-use Rattle.cy_model.specs.Laws.{NoEndWaits, NoHeadIsLost, NoHeadWaits}
-use Rattle.cy_model.specs.Marks.{Mark, opened, began, error_answer, started, Trace}
-use Rattle.cy_model.specs.Settling.{begin_bound, due_by_front, due_move, first_move, front_of, is_awaited, may_begin, next_move, settled, with_marks}
-use Rattle.cy_model.specs.Verdicts.{not_found_status}
-use Rattle.cy_model.proofs.Gone.{still}
-use Rattle.cy_model.proofs.Histories.{owed_in}
-use Rattle.cy_model.proofs.Settlings.{awaited_at_rest, goes_on_at_rest, may_begin-parts, settled-rests}
-use Rattle.cy_model.proofs.TraceInduction.{IsKept, either_way, over_keeps, return_keeps, trace_keeps}
-
--- while a request is open no head may be taken up
-pub open_may_not_begin : (T : Trace) → is_open T ≡ true → may_begin T ≡ false
-open_may_not_begin T e = ap (λ (v : Bool). not v && (is_none (cause_of T) && leb (length (unsent T)) begin_bound)) e
+use Rattle.cy_model.specs.Laws.{NoEndWaits, NoHeadWaits}
+use Rattle.cy_model.specs.Marks.{Mark, opened, called, started, Trace}
+use Rattle.cy_model.specs.Outputs.{is_gone}
+use Rattle.cy_model.specs.Settling.{Move, body_cause, body_move, cause_and_fault, due_by_front, due_move, end_move, first_move, front_of, head_move, input_move, is_empty_jobs, next_move, return_marks_in, return_move, settled, with_marks}
+use Rattle.cy_model.proofs.Built.{owed_open, plain_body, plain_of}
+use Rattle.cy_model.proofs.Gone.{all_still, no_end, no_head, open_may_not_begin}
+use Rattle.cy_model.proofs.Settlings.{awaited_at_rest, goes_on_at_rest, settled-rests}
+use Rattle.cy_model.proofs.TraceInduction.{either_way, job_begins}
 
 -- with no entry no byte waits
 nothing_is_awaited : (limits : Limits) → 1 ≤ limits.max_head → front_of limits [] ≡ awaited
 unfolding front_length
 nothing_is_awaited limits long = (heads_are_awaited limits.max_head limits.max_fields []).1 (refl, long)
+
+head_none : (move : Move) (moves : List Move) → first_move (move ∷ moves) ≡ None → move ≡ None
+head_none None moves e = refl
+head_none (Some ms) moves e = cc
+
+rest_none : (move : Move) (moves : List Move) → first_move (move ∷ moves) ≡ None → first_move moves ≡ None
+rest_none None moves e = e
+rest_none (Some ms) moves e = cc
+
+-- whether there is a move doesn't hang on what it would be
+still_none : {X Y : Type 0} (v : Bool) (o : Option X) (f g : X → Y) → (if v then option_map f o else None) ≡ None → (if v then option_map g o else None) ≡ None
+still_none true None f g e = refl
+still_none true (Some x) f g e = cc
+still_none false o f g e = refl
+
+neither : {X : Type 0} (v : Bool) (x y : X) → (if v then Some x else None) ≡ None → (if v then Some y else None) ≡ None
+neither true x y e = cc
+neither false x y e = refl
 
 module _ (limits : Limits) (rules : List Rule) where
   -- no move applies
@@ -37,21 +49,39 @@ module _ (limits : Limits) (rules : List Rule) where
   Rests T = next_move limits rules T ≡ None
 
   nothing_rests : 1 ≤ limits.max_head → Rests []
-  nothing_rests long = ap (λ (f : Front). first_move (None ∷ due_move (due_by_front limits rules 0 1 f) ∷ [])) (nothing_is_awaited limits long)
+  nothing_rests long =
+      all_still limits rules [] (plain_body limits [] (plain_of [] tt)) refl refl refl
+      (ap (λ (f : Front). due_move (due_by_front limits rules 0 1 f)) (nothing_is_awaited limits long))
 
-  -- a service that is owed belongs to an open request
+  -- while a callback of an open request runs, only its body or the end of the input may be a cause
+  begun_rests : (T R : Trace) (j : Job) → is_open R ≡ true → running R ≡ Some j → is_none (cause_of R) ≡ is_none (cause_of T)
+      → body_cause limits R ≡ body_cause limits T → has_ended R ≡ has_ended T → has_whole_body R ≡ has_whole_body T → Rests T → Rests R
+  begun_rests T R j open_now runs cause body ended whole rests =
+      let may = open_may_not_begin R open_now in
+      let first = head_none (body_move limits T) (input_move T ∷ return_move T ∷ end_move limits T ∷ head_move limits rules T ∷ []) rests in
+      let others = rest_none (body_move limits T) (input_move T ∷ return_move T ∷ end_move limits T ∷ head_move limits rules T ∷ []) rests in
+      let second = head_none (input_move T) (return_move T ∷ end_move limits T ∷ head_move limits rules T ∷ []) others in
+      all_still limits rules R
+      ((λ i. if cause i then option_map (cause_and_fault R) (body i) else None)
+      ∙ still_none (is_none (cause_of T)) (body_cause limits T) (cause_and_fault T) (cause_and_fault R) first)
+      ((λ i. if cause i && (ended i && not (whole i)) then Some (cause_and_fault R InputEnd) else None)
+      ∙ neither (is_none (cause_of T) && (has_ended T && not (has_whole_body T))) (cause_and_fault T InputEnd) (cause_and_fault R InputEnd) second)
+      (no_return (is_open R) (running R) (is_none (parked_callback R) && is_empty_jobs (context_of R).owed) (return_marks_in (state_of R) R) runs)
+      (no_end limits R may) (no_head limits rules R may)
+    where
+      no_return : (v : Bool) (o : Option Job) (w : Bool) (m : Move) → o ≡ Some j → (if v && (is_none o && w) then m else None) ≡ None
+      no_return true None w m e = cc
+      no_return true (Some i) w m e = refl
+      no_return false o w m e = refl
+
+  -- a callback that is owed belongs to an open request
   job_rests : (t : ℕ) (T : Trace) (o : Option Job) → next_job T ≡ o → Rests T → Rests (with_marks t (job_marks o) T)
   job_rests t T None e rests = rests
   job_rests t T (Some j) e rests =
-      let open_now = (owed_in T j e).0 in
-      elim (makes_calls j) as (λ v. Rests (with_marks t (started j ∷ run_marks v) T)) [
-        | true ↦
-            let R : Trace = with_marks t (started j ∷ run_marks true) T in
-            still limits rules R (open_may_not_begin R open_now)
-        | false ↦
-            let R : Trace = with_marks t (started j ∷ run_marks false) T in
-            still limits rules R (open_may_not_begin R open_now)
-      ]
+      let open_now = owed_open T j e in
+      job_begins Rests t j T
+      (λ q. begun_rests T ((t, started j) ∷ T) j open_now refl refl refl refl refl rests)
+      (λ q. begun_rests T ((t, called call.Run None) ∷ (t, started j) ∷ T) j open_now refl refl refl refl refl rests)
 
   turn_rests : (t : ℕ) (T : Trace) → Rests (with_marks t (job_marks (owed_after T (settled limits rules t T))) (settled limits rules t T))
   turn_rests t T =
@@ -87,48 +117,3 @@ no_head_waits limits rules entries long may =
 pub no_end_waits : NoEndWaits
 no_end_waits limits rules entries long may =
     goes_on_at_rest limits rules (trace_of limits rules entries) (entries_rest limits rules long entries) may
-
--- ---- no head is lost
-
--- what is awaited where a connection has closed for the end of its input
-AwaitsAtEnd : Limits → Trace → Type 0
-AwaitsAtEnd limits T = cause_of T ≡ Some InputEnd → is_awaited (front_of limits T) ≡ true
-
--- a later cause of another kind is not the first
-first_cause : (cause : Option CloseCause) (k : CloseCause) → (k ≡ InputEnd → ⊥) → earlier cause k ≡ Some InputEnd → cause ≡ Some InputEnd
-first_cause None k other e = absurd (other cc)
-first_cause (Some first) k other e = e
-
-no_cause : (cause : Option CloseCause) → cause ≡ None → cause ≡ Some InputEnd → ⊥
-no_cause cause none e = cc
-
--- nothing is taken of an input that has ended
-still_taken : (T : Trace) → is_closed_to event.In T ≡ false → cause_of T ≡ Some InputEnd → ⊥
-still_taken T taken e =
-    let closed = or_left (is_some (cause_of T)) (has_ended T) (ap is_some e) in
-    cc
-
-awaits_kept : (limits : Limits) (rules : List Rule) → IsKept limits rules (AwaitsAtEnd limits)
-unfolding AwaitsAtEnd
-awaits_kept limits rules = record {
-  opens = λ t T a. a;
-  ends = λ t T a. a;
-  comes = λ t b T taken a e. absurd (still_taken T taken e);
-  sends = λ t n T a. a;
-  input_ends = λ t T end a e. end.awaits;
-  refuses = λ t status to_head T may due a e. a (first_cause (cause_of T) Refused (λ q. cc) e);
-  finds_none = λ t r T may at due a.
-      let none = (may_begin-parts T may).1 in
-      over_keeps (AwaitsAtEnd limits) t r.keep None ((t, error_answer not_found_status) ∷ (t, began r) ∷ T)
-      (λ e. absurd (no_cause (cause_of T) none e))
-      (λ e. absurd (no_cause (cause_of T) none (first_cause (cause_of T) LastAnswer (λ q. cc) e)));
-  begins = λ t r T may at due a e. absurd (no_cause (cause_of T) (may_begin-parts T may).1 e);
-  serves = λ t part T e a. a;
-  puts = λ t b T a. a;
-  returns = λ t j T e a. return_keeps (AwaitsAtEnd limits) t T a a (λ q. a (first_cause (cause_of T) LastAnswer (λ k. cc) q));
-}
-
-pub no_head_is_lost : NoHeadIsLost
-unfolding AwaitsAtEnd
-no_head_is_lost limits rules entries e =
-    trace_keeps (AwaitsAtEnd limits) limits rules (awaits_kept limits rules) (λ q. cc) entries e

@@ -6,7 +6,7 @@ use Rattle.cy_event.specs.declared.steps.Step.{Step}
 use Rattle.cy_event.specs.declared.steps.Step.TheVariants as step
 use Rattle.cy_map.specs.declared.rule.Rule.{Rule}
 use Rattle.cy_model.specs.Entries.{Entry, opening, tick, on_event, on_run, on_act, trace_of, reply_to}
-use Rattle.cy_model.specs.Folds.{is_gone}
+use Rattle.cy_model.specs.Outputs.{is_gone}
 use Rattle.cy_model.specs.Replies.{Replied, plain}
 
 -- what a step is about: the clock, an admission, or one connection

@@ -14,11 +14,14 @@ use Rattle.cy_event.specs.Answers.{Answer, takes}
 use Rattle.cy_event.specs.Callbacks.{makes_calls}
 use Rattle.cy_map.specs.declared.rule.Rule.{Rule}
 use Rattle.cy_event.specs.Table.{row, is_end}
-use Rattle.cy_model.specs.Folds.{answer_of, bytes_of, cause_of, ended_charts, has_ended, is_broken, is_gone, is_kept, running, state_of, unread, unsent}
+use Rattle.cy_model.specs.Endings.{end_marks}
+use Rattle.cy_model.specs.Folds.{cause_of, ended_charts, has_ended, is_broken, running, state_of}
+use Rattle.cy_model.specs.Inputs.{room}
 use Rattle.cy_model.specs.Jobs.{next_job}
 use Rattle.cy_model.specs.Marks.{Mark, opened, ended, came, sent, called, started, back, put, Trace}
+use Rattle.cy_model.specs.Outputs.{answer_of, is_gone, unsent}
 use Rattle.cy_model.specs.Replies.{Replied, plain}
-use Rattle.cy_model.specs.Settling.{with_marks, end_marks_by, rested, settled}
+use Rattle.cy_model.specs.Settling.{with_marks, rested, settled}
 
 pub data Entry : Type 0 where
   -- the connection is admitted
@@ -33,20 +36,6 @@ pub data Entry : Type 0 where
   on_act : Act → List ℕ → Entry
 
 -- ---- what is taken
-
--- bytes that are kept of the input at most, and that one connection takes in all
-abbrev pub input_buffer : ℕ
-input_buffer = 16384
-
-abbrev pub input_total : ℕ
-input_total = 2 ^ 62
-
--- how many bytes may come, of those that wait and the number of all that came
-abbrev pub room_by : List ℕ → ℕ → ℕ
-room_by waiting total = min (input_buffer - length waiting) (input_total - total)
-
-abbrev pub room : Trace → ℕ
-room T = room_by (unread T) (length (bytes_of T))
 
 -- how much of n bytes of content is taken
 abbrev pub write_takes : Answer → ℕ → ℕ
@@ -89,13 +78,13 @@ event_marks T event.End b = ended ∷ []
 event_marks T (event.Took n) b = sent (sent_of n T) ∷ []
 
 -- the end of the request, where the row says so
-abbrev pub end_marks : Bool → Trace → List Mark
-end_marks true T = end_marks_by (is_kept T) (cause_of T)
-end_marks false T = []
+abbrev pub end_marks_where : Bool → Trace → List Mark
+end_marks_where true T = end_marks T
+end_marks_where false T = []
 
 -- the callback of a service returns
 abbrev pub return_marks : Trace → List Mark
-return_marks T = back ∷ called call.Return None ∷ end_marks (is_end (row (state_of T) call.Return)) T
+return_marks T = back ∷ called call.Return None ∷ end_marks_where (is_end (row (state_of T) call.Return)) T
 
 -- some callbacks are begun by a call of the state table
 abbrev pub run_marks : Bool → List Mark

@@ -1,14 +1,17 @@
--- What the marks say of a connection. Each word names the marks at which it changes; every other mark leaves it.
-use Rattle.std.specs.Prelude.{ℕ, ◌+◌, Bool, true, false, ◌&&◌, not, List, [], ◌∷◌, ◌++◌, length, drop, Option, Some, None, is_some, is_none, ◌==◌, if◌then◌else◌}
+-- What the marks say of a connection and of its last request. Each word names the marks at which it changes; every other
+-- mark leaves it.
+use Rattle.std.specs.Prelude.{ℕ, ◌+◌, Bool, true, false, List, [], ◌∷◌, ◌++◌, length, Option, Some, None, is_none, is_some, if◌then◌else◌, ◌&&◌}
 use Rattle.cy_event.specs.declared.steps.Call.{Call}
+use Rattle.cy_event.specs.declared.steps.Call.TheVariants as call
 use Rattle.cy_event.specs.declared.steps.CloseCause.{CloseCause}
 use Rattle.cy_event.specs.declared.steps.Job.{Job}
 use Rattle.cy_event.specs.declared.steps.Job.TheVariants as job
 use Rattle.cy_event.specs.declared.steps.State.{State}
 use Rattle.cy_event.specs.declared.steps.State.TheVariants as state
-use Rattle.cy_event.specs.Answers.{Answer, fresh_answer, after_put, error_answer as error_answer_of, answer_text, refusal_text, continue_text, Connection, silent, close, keep_alive}
-use Rattle.cy_event.specs.Table.{next_state}
-use Rattle.cy_model.specs.Marks.{ended, came, sent, began, refused, called, started, parked, back, put, error_answer, over, caused, broken, TakenUp, Trace}
+use Rattle.cy_event.specs.Callbacks.{Context, after_row, is_owed_to_listener, no_context, popped, with_listener, with_timeout}
+use Rattle.cy_event.specs.ReadyListeners.{ReadyListeners, after_begun, input_not_ready, no_listeners, output_not_ready, with_read_listener, with_write_listener}
+use Rattle.cy_event.specs.Table.{next_state, row}
+use Rattle.cy_model.specs.Marks.{Mark, Side, input_side, output_side, opened, ended, came, sent, began, refused, called, started, parked, back, listened, timeout_set, read_listener_set, write_listener_set, not_ready, over, caused, broken, TakenUp, Trace}
 
 -- ---- the connection
 
@@ -17,12 +20,6 @@ abbrev pub bytes_of : Trace → List ℕ
 bytes_of [] = []
 bytes_of ((t, came b) ∷ T) = bytes_of T ++ b
 bytes_of ((t, m) ∷ T) = bytes_of T
-
--- how many of them belong to the requests that were taken up
-abbrev pub consumed : Trace → ℕ
-consumed [] = 0
-consumed ((t, began r) ∷ T) = r.place + r.size
-consumed ((t, m) ∷ T) = consumed T
 
 -- how many requests were begun
 abbrev pub begun_count : Trace → ℕ
@@ -36,15 +33,17 @@ requests_of [] = []
 requests_of ((t, began r) ∷ T) = requests_of T ++ r ∷ []
 requests_of ((t, m) ∷ T) = requests_of T
 
+-- what was settled as the last of them was taken up
+abbrev pub last_taken : Trace → Option TakenUp
+last_taken [] = None
+last_taken ((t, began r) ∷ T) = Some r
+last_taken ((t, m) ∷ T) = last_taken T
+
 -- the input has ended
 abbrev pub has_ended : Trace → Bool
 has_ended [] = false
 has_ended ((t, ended) ∷ T) = true
 has_ended ((t, m) ∷ T) = has_ended T
-
--- the bytes that wait
-abbrev pub unread : Trace → List ℕ
-unread T = drop (consumed T) (bytes_of T)
 
 -- the first of two causes
 abbrev pub earlier : Option CloseCause → CloseCause → Option CloseCause
@@ -57,10 +56,38 @@ cause_of [] = None
 cause_of ((t, caused k) ∷ T) = earlier (cause_of T) k
 cause_of ((t, m) ∷ T) = cause_of T
 
+-- unsent bytes were dropped, and nothing more is written
 abbrev pub is_broken : Trace → Bool
 is_broken [] = false
 is_broken ((t, broken) ∷ T) = true
 is_broken ((t, m) ∷ T) = is_broken T
+
+-- ---- moments
+
+-- at a moment, where bytes came
+abbrev pub moment_of_bytes : ℕ → List ℕ → ℕ → ℕ
+moment_of_bytes t [] before = before
+moment_of_bytes t (b ∷ bytes) before = t
+
+-- the mark of idleness: the moment of admission, of the last request's end, or of the last bytes, the latest of them
+abbrev pub idle_since : Trace → ℕ
+idle_since [] = 0
+idle_since ((t, opened) ∷ T) = t
+idle_since ((t, came b) ∷ T) = moment_of_bytes t b (idle_since T)
+idle_since ((t, over) ∷ T) = t
+idle_since ((t, m) ∷ T) = idle_since T
+
+-- at a moment, where there was no cause before
+abbrev pub moment_of_cause : ℕ → Option CloseCause → ℕ → ℕ
+moment_of_cause t None before = t
+moment_of_cause t (Some k) before = before
+
+-- the moment of the cause, and of a request that ended later
+abbrev pub closing_since : Trace → ℕ
+closing_since [] = 0
+closing_since ((t, caused k) ∷ T) = moment_of_cause t (cause_of T) (closing_since T)
+closing_since ((t, over) ∷ T) = t
+closing_since ((t, m) ∷ T) = closing_since T
 
 -- ---- the last request; before the first, and where a head was refused, these are as at a begin
 
@@ -85,20 +112,6 @@ request_of ((t, began r) ∷ T) = Some r
 request_of ((t, refused status to_head) ∷ T) = None
 request_of ((t, m) ∷ T) = request_of T
 
--- the digit behind the dot of its version
-abbrev pub minor_of_request : Trace → ℕ
-minor_of_request [] = 0
-minor_of_request ((t, began r) ∷ T) = r.head.minor
-minor_of_request ((t, refused status to_head) ∷ T) = 0
-minor_of_request ((t, m) ∷ T) = minor_of_request T
-
--- its answer may leave the connection open
-abbrev pub is_kept : Trace → Bool
-is_kept [] = false
-is_kept ((t, began r) ∷ T) = r.keep
-is_kept ((t, refused status to_head) ∷ T) = false
-is_kept ((t, m) ∷ T) = is_kept T
-
 -- the component that serves it; a dispatch may name another
 abbrev pub part_of : Trace → ℕ
 part_of [] = 0
@@ -107,7 +120,7 @@ part_of ((t, refused status to_head) ∷ T) = 0
 part_of ((t, called k (Some part)) ∷ T) = part
 part_of ((t, m) ∷ T) = part_of T
 
--- the callback that runs
+-- the callback that runs; one that waits and goes on runs as `Resume`
 abbrev pub running : Trace → Option Job
 running [] = None
 running ((t, began r) ∷ T) = None
@@ -115,7 +128,23 @@ running ((t, refused status to_head) ∷ T) = None
 running ((t, started j) ∷ T) = Some j
 running ((t, parked s) ∷ T) = None
 running ((t, back) ∷ T) = None
+running ((t, over) ∷ T) = None
 running ((t, m) ∷ T) = running T
+
+-- a callback that waits: what for, and since when
+pub record Parked : Type 0 where
+  pub side : Side
+  pub since : ℕ
+
+abbrev pub parked_callback : Trace → Option Parked
+parked_callback [] = None
+parked_callback ((t, began r) ∷ T) = None
+parked_callback ((t, refused status to_head) ∷ T) = None
+parked_callback ((t, started j) ∷ T) = None
+parked_callback ((t, parked s) ∷ T) = Some (record { side = s; since = t })
+parked_callback ((t, back) ∷ T) = None
+parked_callback ((t, over) ∷ T) = None
+parked_callback ((t, m) ∷ T) = parked_callback T
 
 -- whether its service was begun
 abbrev pub is_served : Trace → Bool
@@ -141,14 +170,44 @@ state_of ((t, refused status to_head) ∷ T) = state.Dispatched
 state_of ((t, called k p) ∷ T) = next_state (state_of T) k
 state_of ((t, m) ∷ T) = state_of T
 
--- its answer so far
-abbrev pub answer_of : Trace → Answer
-answer_of [] = fresh_answer
-answer_of ((t, began r) ∷ T) = fresh_answer
-answer_of ((t, refused status to_head) ∷ T) = fresh_answer
-answer_of ((t, put b) ∷ T) = after_put b (answer_of T)
-answer_of ((t, error_answer s) ∷ T) = error_answer_of s
-answer_of ((t, m) ∷ T) = answer_of T
+-- the listeners of readiness
+abbrev pub ready_listeners : Trace → ReadyListeners
+ready_listeners [] = no_listeners
+ready_listeners ((t, began r) ∷ T) = no_listeners
+ready_listeners ((t, refused status to_head) ∷ T) = no_listeners
+ready_listeners ((t, read_listener_set) ∷ T) = with_read_listener (ready_listeners T)
+ready_listeners ((t, write_listener_set) ∷ T) = with_write_listener (ready_listeners T)
+ready_listeners ((t, not_ready input_side) ∷ T) = input_not_ready (ready_listeners T)
+ready_listeners ((t, not_ready output_side) ∷ T) = output_not_ready (ready_listeners T)
+ready_listeners ((t, started j) ∷ T) = after_begun j (ready_listeners T)
+ready_listeners ((t, m) ∷ T) = ready_listeners T
+
+-- how long asynchronous processing may take where the component says nothing
+abbrev pub timeout_by : Option TakenUp → ℕ
+timeout_by None = 0
+timeout_by (Some r) = r.async_timeout
+
+-- a call of the state table, by its row, at a moment
+abbrev pub after_call_at : ℕ → Call → Trace → Context → Context
+after_call_at t k T c =
+    let l = ready_listeners T in
+    after_row (timeout_by (request_of T)) t l.read_set l.write_set (state_of T) (row (state_of T) k) c
+
+-- a callback of a listener is no longer owed as it begins
+abbrev pub after_started : Bool → Context → Context
+after_started true c = popped c
+after_started false c = c
+
+-- its listeners, the callbacks owed to them, the timeout and the deadline
+abbrev pub context_of : Trace → Context
+context_of [] = no_context
+context_of ((t, began r) ∷ T) = no_context
+context_of ((t, refused status to_head) ∷ T) = no_context
+context_of ((t, called k p) ∷ T) = after_call_at t k T (context_of T)
+context_of ((t, listened tag) ∷ T) = with_listener tag (context_of T)
+context_of ((t, timeout_set ms) ∷ T) = with_timeout ms (context_of T)
+context_of ((t, started j) ∷ T) = after_started (is_owed_to_listener j) (context_of T)
+context_of ((t, m) ∷ T) = context_of T
 
 -- ---- all requests
 
@@ -161,49 +220,3 @@ ended_charts ((t, m) ∷ T) = ended_charts T
 -- the charts of all requests
 abbrev pub charts : Trace → List (List Call)
 charts T = if is_open T then ended_charts T ++ calls T ∷ [] else ended_charts T
-
--- ---- the output
-
--- an answer says that its connection closes, stays open where that isn't the rule of the version, or nothing
--- (RFC 9112, section 9.3)
-abbrev pub connection_by : Bool → Option CloseCause → ℕ → Connection
-connection_by keep cause minor =
-    if keep && is_none cause then (if minor == 0 then keep_alive else silent) else close
-
--- what the end of a request adds, at its moment: its whole answer, or nothing once the connection is broken
-abbrev pub finish_by : Bool → Connection → Answer → ℕ → List ℕ
-finish_by is_broken connection a t = if is_broken then [] else answer_text a t connection
-
--- what a begin adds
-abbrev pub begin_text : Bool → List ℕ
-begin_text true = continue_text
-begin_text false = []
-
--- all bytes of all answers
-abbrev pub output : Trace → List ℕ
-output [] = []
-output ((t, began r) ∷ T) = output T ++ begin_text r.go_on
-output ((t, refused status to_head) ∷ T) = output T ++ refusal_text status to_head t
-output ((t, over) ∷ T) =
-    output T ++ finish_by (is_broken T) (connection_by (is_kept T) (cause_of T) (minor_of_request T)) (answer_of T) t
-output ((t, m) ∷ T) = output T
-
--- how many of them the socket took
-abbrev pub took : Trace → ℕ
-took [] = 0
-took ((t, sent n) ∷ T) = took T + n
-took ((t, m) ∷ T) = took T
-
--- what waits for the socket, of what was written and taken; nothing once the connection is broken
-abbrev pub unsent_by : Bool → ℕ → List ℕ → List ℕ
-unsent_by is_broken took written = if is_broken then [] else drop took written
-
-abbrev pub unsent : Trace → List ℕ
-unsent T = unsent_by (is_broken T) (took T) (output T)
-
--- there is a cause to close, no request is open, and nothing waits for the socket
-abbrev pub is_gone_by : Option CloseCause → Bool → List ℕ → Bool
-is_gone_by cause is_open unsent = is_some cause && (not is_open && (length unsent == 0))
-
-abbrev pub is_gone : Trace → Bool
-is_gone T = is_gone_by (cause_of T) (is_open T) (unsent T)

@@ -1,5 +1,5 @@
 -- Laws of the definitions. Each is the contract of a public function without a body.
-use Rattle.std.specs.Prelude.{◌≡◌, ◌≢◌, ◌≤◌, ◌⊎◌, ℕ, ◌+◌, Bool, true, false, List, [], ◌∷◌, ◌++◌, All, codes, drop, length, Option, option_map, Some, None}
+use Rattle.std.specs.Prelude.{◌≡◌, ◌≢◌, ◌≤◌, ◌⊎◌, ℕ, ◌+◌, Bool, true, false, List, [], ◌∷◌, ◌++◌, All, codes, drop, length, Option, option_map, Some, None, Ok}
 use Rattle.cy_event.specs.declared.limits.Limits.{Limits}
 use Rattle.cy_event.specs.declared.steps.Act.TheVariants as act
 use Rattle.cy_event.specs.declared.steps.Call.{Call}
@@ -16,16 +16,20 @@ use Rattle.cy_event.specs.Table.{IsLegal}
 use Rattle.cy_model.specs.Connections.{admission, connections, counted, kind_of, moment, own_entries, reply_by, own}
 use Rattle.cy_model.specs.Entries.{Entry, opening, tick, on_run, after, trace_of, reply_to}
 use Rattle.cy_event.specs.Answers.{refusal_text}
-use Rattle.cy_event.specs.Framings.{Framed}
+use Rattle.cy_event.specs.Bodies.{body_of, whole}
+use Rattle.cy_event.specs.Framings.{Framed, framed}
 use Rattle.cy_event.specs.Heads.{Head, found, head_of}
-use Rattle.cy_model.specs.Folds.{bytes_of, cause_of, charts, consumed, ended_charts, has_ended, is_gone, is_open, is_served, output, request_of, requests_of, running}
-use Rattle.cy_model.specs.Marks.{TakenUp, Trace, began, over}
+use Rattle.cy_model.specs.Folds.{bytes_of, cause_of, charts, ended_charts, has_ended, is_open, is_served, request_of, requests_of, running}
+use Rattle.cy_model.specs.Inputs.{consumed, has_whole_body}
+use Rattle.cy_model.specs.Outputs.{is_gone, output}
+use Rattle.cy_event.specs.declared.steps.Call.TheVariants as call
+use Rattle.cy_model.specs.Marks.{Mark, TakenUp, Trace, began, refused, called, error_answer, aborted, over, caused}
 use Rattle.cy_model.specs.Replies.{is_refusal, plain}
 use Rattle.cy_model.specs.Reports.{report}
 use Rattle.cy_model.specs.Runs.{IsLegalRun, answered}
 use Rattle.cy_model.specs.Steps.{IsValid}
 use Rattle.cy_model.specs.Settling.{due_by_verdict, due_of, front_of, is_awaited, may_begin, next_move, not_found, refusal, request, settle_step, settled, rested_and_taken_up}
-use Rattle.cy_model.specs.Verdicts.{served, verdict_of}
+use Rattle.cy_model.specs.Verdicts.{is_unbuilt, served, verdict_of}
 
 -- no move applies to a settled trace
 abbrev pub SettlingRests : Type 0
@@ -54,11 +58,41 @@ NoEndWaits =
     (limits : Limits) (rules : List Rule) (entries : List (ℕ × Entry)) → 1 ≤ limits.max_head
     → may_begin (trace_of limits rules entries) ≡ true → has_ended (trace_of limits rules entries) ≡ false
 
--- where a connection closes for the end of its input, no head was left: one is awaited still
+-- where a connection closes for the end of its input, no head was left: the input ended inside a body, or a head is
+-- awaited still
 abbrev pub NoHeadIsLost : Type 0
 NoHeadIsLost =
     (limits : Limits) (rules : List Rule) (entries : List (ℕ × Entry))
-    → cause_of (trace_of limits rules entries) ≡ Some InputEnd → is_awaited (front_of limits (trace_of limits rules entries)) ≡ true
+    → cause_of (trace_of limits rules entries) ≡ Some InputEnd
+    → (has_whole_body (trace_of limits rules entries) ≡ false) ⊎ (is_awaited (front_of limits (trace_of limits rules entries)) ≡ true)
+
+-- ---- what the container does by itself
+
+-- its calls of the state table are Return and Fault alone
+abbrev pub is_containers_call : Call → Bool
+is_containers_call call.Return = true
+is_containers_call call.Fault = true
+is_containers_call k = false
+
+-- a mark that the container makes: it takes no bytes, delivers no content, runs no callback and accepts no act of one
+abbrev pub is_containers : Mark → Bool
+is_containers (began r) = true
+is_containers (refused status to_head) = true
+is_containers (called k part) = is_containers_call k
+is_containers (error_answer status) = true
+is_containers aborted = true
+is_containers over = true
+is_containers (caused k) = true
+is_containers m = false
+
+abbrev pub AllContainers : List Mark → Type 0
+AllContainers [] = Unit {0}
+AllContainers (m ∷ ms) = (is_containers m ≡ true) × AllContainers ms
+
+-- each move makes such marks alone
+abbrev pub MovesAreTheContainers : Type 0
+MovesAreTheContainers =
+    (limits : Limits) (rules : List Rule) (T : Trace) (ms : List Mark) → next_move limits rules T ≡ Some ms → AllContainers ms
 
 -- ---- the worked example
 
@@ -117,20 +151,37 @@ abbrev pub IsAtPlace : Limits → List ℕ → TakenUp → Type 0
 IsAtPlace limits bytes r =
     (more : List ℕ) → head_of limits.max_head limits.max_fields (drop r.place (bytes ++ more)) ≡ found r.size r.head
 
--- requests stand in a row, from this place to that: the first begins at the one, each later one where the one before it
--- ends, and the last ends at the other
-abbrev pub AreInRow : ℕ → ℕ → List TakenUp → Type 0
-AreInRow from to [] = from ≡ to
-AreInRow from to (r ∷ rs) = (r.place ≡ from) × AreInRow (from + r.size) to rs
+-- behind the head of a request stands its whole body, of so many bytes, whatever comes behind it
+abbrev pub HasBody : List ℕ → TakenUp → ℕ → Type 0
+HasBody bytes r n =
+    (more : List ℕ)
+    → (content : List ℕ) × (body_of r.max_trailer r.framing (drop (r.place + r.size) (bytes ++ more)) ≡ whole content n)
 
--- the requests of a trace stand in all the bytes that came, from the first byte to those that wait
+-- requests stand in a row from this place on: behind each stands its whole body, and the next begins where that ends
+abbrev pub AreInRow : List ℕ → ℕ → List TakenUp → Type 0
+AreInRow bytes from [] = Unit {0}
+AreInRow bytes from (r ∷ []) = r.place ≡ from
+AreInRow bytes from (r ∷ q ∷ rs) = (r.place ≡ from) × (n : ℕ) × HasBody bytes r n × AreInRow bytes (r.place + r.size + n) (q ∷ rs)
+
+abbrev pub last_of : List TakenUp → Option TakenUp
+last_of [] = None
+last_of (r ∷ []) = Some r
+last_of (r ∷ q ∷ rs) = last_of (q ∷ rs)
+
+-- a head stands where the whole body of the last request ends, or at the first byte
+abbrev pub Follows : List ℕ → Option TakenUp → TakenUp → Type 0
+Follows bytes None r = r.place ≡ 0
+Follows bytes (Some last) r = (n : ℕ) × HasBody bytes last n × (r.place ≡ last.place + last.size + n)
+
+-- the requests of a trace stand in all the bytes that came, and the next is looked for behind the last body alone
 pub record AreAtTheirPlaces (limits : Limits) (T : Trace) : Type 0 where
   pub heads : All (IsAtPlace limits (bytes_of T)) (requests_of T)
-  pub row : AreInRow 0 (consumed T) (requests_of T)
+  pub row : AreInRow (bytes_of T) 0 (requests_of T)
+  pub next : may_begin T ≡ true → (r : TakenUp) → r.place ≡ consumed T → Follows (bytes_of T) (last_of (requests_of T)) r
 
--- whatever the entries of a connection are, and so however its bytes were cut: each head that was taken up is the one
--- that the grammar finds at its place in all the bytes that came, now and later; the next begins where its request
--- ends, and what waits stands behind the last
+-- Whatever the entries of a connection are, and so however its bytes were cut: each head that was taken up is the one
+-- that the grammar finds at its place in all the bytes that came, now and later; its whole body stands behind it before
+-- the next begins, and nothing of a body is taken for a head (RFC 9112, sections 6.3 and 11.2).
 abbrev pub HeadsAreAtTheirPlaces : Type 0
 HeadsAreAtTheirPlaces =
     (limits : Limits) (rules : List Rule) (entries : List (ℕ × Entry)) → AreAtTheirPlaces limits (trace_of limits rules entries)
@@ -148,6 +199,18 @@ pub record OnlyGrows (before later : Trace) : Type 0 where
 abbrev pub NothingIsTakenBack : Type 0
 NothingIsTakenBack =
     (limits : Limits) (rules : List Rule) (t : ℕ) (T : Trace) (e : Entry) → OnlyGrows T (after limits rules t T e)
+
+-- A request has the framing that its head has, and is none that isn't served yet: without a body, and not of HEAD.
+pub record IsFramedByHead (r : TakenUp) : Type 0 where
+  pub framing : Framed
+  pub of_head : framed r.head.minor r.head.fields ≡ Ok framing
+  pub same : r.framing ≡ framing.body
+  pub built : is_unbuilt r.head framing ≡ false
+
+-- whatever the entries of a connection are, so is each request that it took up (RFC 9112, section 6.3)
+abbrev pub RequestsAreFramed : Type 0
+RequestsAreFramed =
+    (limits : Limits) (rules : List Rule) (entries : List (ℕ × Entry)) → All IsFramedByHead (requests_of (trace_of limits rules entries))
 
 -- ---- ends and refusals
 

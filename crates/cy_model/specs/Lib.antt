@@ -2,9 +2,13 @@ pub mod Marks
 pub mod Verdicts
 pub mod Unbuilt
 pub mod Folds
+pub mod Inputs
+pub mod Outputs
+pub mod Endings
 pub mod Repeat
 pub mod Settling
 pub mod Jobs
+pub mod Ticks
 pub mod Replies
 pub mod Entries
 pub mod Runs

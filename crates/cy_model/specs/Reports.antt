@@ -19,7 +19,8 @@ use Rattle.cy_event.specs.declared.table.ChartItem.TheVariants.{One, Cycles}
 use Rattle.cy_map.specs.declared.rule.Rule.{Rule}
 use Rattle.cy_model.specs.Connections.{History, connections, replies}
 use Rattle.cy_model.specs.Entries.{trace_of}
-use Rattle.cy_model.specs.Folds.{cause_of, charts, output, took}
+use Rattle.cy_model.specs.Folds.{cause_of, charts}
+use Rattle.cy_model.specs.Outputs.{output, took}
 use Rattle.cy_model.specs.Marks.{Trace}
 use Rattle.cy_model.specs.Replies.{Replied}
 

@@ -1,5 +1,5 @@
 -- The marks that no entry makes yet, since what makes them isn't built. Where it is built, its line goes.
-use Rattle.std.specs.Prelude.{◌≡◌, ℕ, Bool, true, false, not, ◌||◌, ◌==◌, All}
+use Rattle.std.specs.Prelude.{◌≡◌, ℕ, Bool, true, false, not, ◌||◌, ◌==◌, [], ◌∷◌}
 use Rattle.cy_event.specs.declared.steps.Call.{Call}
 use Rattle.cy_event.specs.declared.steps.Call.TheVariants as call
 use Rattle.cy_event.specs.declared.steps.CloseCause.{CloseCause}
@@ -57,4 +57,5 @@ is_unbuilt m = false
 
 -- none of them stands in the trace
 abbrev pub NothingUnbuilt : Trace → Type 0
-NothingUnbuilt T = All (λ (m : ℕ × Mark). is_unbuilt m.1 ≡ false) T
+NothingUnbuilt [] = Unit {0}
+NothingUnbuilt ((t, m) ∷ T) = (is_unbuilt m ≡ false) × NothingUnbuilt T

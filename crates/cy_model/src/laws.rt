@@ -1,5 +1,5 @@
 //! Laws of the definitions: a function without parameters and without a body has the law as its contract.
-ghost use Rattle.cy_model.specs.Laws.{AdmissionsOpenOne, ChartsAreLegal, ClockTicksForEach, ExampleIsReported, FullOpensNone, GoneStaysGone, HeadsAreAtTheirPlaces, LimitIsKept, NoEndWaits, NoHeadIsLost, NoHeadWaits, NothingIsTakenBack, OwnEntriesDecide, OwnStepsAddOwnEntries, RefusalsAreTold, RefusalsLeaveNoMark, RequestsAreJudged, RequestsEndOnce, RunsAreLegal, SettlingGoesOn, SettlingIsTwoWords, SettlingRests, TurnsServe};
+ghost use Rattle.cy_model.specs.Laws.{AdmissionsOpenOne, ChartsAreLegal, ClockTicksForEach, ExampleIsReported, FullOpensNone, GoneStaysGone, HeadsAreAtTheirPlaces, LimitIsKept, MovesAreTheContainers, NoEndWaits, NoHeadIsLost, NoHeadWaits, NothingIsTakenBack, OwnEntriesDecide, OwnStepsAddOwnEntries, RefusalsAreTold, RefusalsLeaveNoMark, RequestsAreFramed, RequestsAreJudged, RequestsEndOnce, RunsAreLegal, SettlingGoesOn, SettlingIsTwoWords, SettlingRests, TurnsServe};
 
 /// No move applies to what is settled.
 pub fn settling_rests()
@@ -121,4 +121,15 @@ pub fn full_opens_none()
 /// A step that is refused, or can do nothing now, leaves no mark.
 pub fn refusals_leave_no_mark()
     ensures { RefusalsLeaveNoMark }
+{}
+
+/// Each request that was taken up has the framing that its head has, and no request with a body, or of HEAD, was.
+pub fn requests_are_framed()
+    ensures { RequestsAreFramed }
+{}
+
+/// No move of the container takes bytes, delivers content, runs a callback or accepts an act of one; of the calls of the
+/// state table it makes Return and Fault alone.
+pub fn moves_are_the_containers()
+    ensures { MovesAreTheContainers }
 {}

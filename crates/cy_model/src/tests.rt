@@ -28,5 +28,7 @@ fn laws_ask_for_nothing(_rt: HostRuntime) -> Result<(), Fail> {
     laws::admissions_open_one();
     laws::full_opens_none();
     laws::refusals_leave_no_mark();
+    laws::requests_are_framed();
+    laws::moves_are_the_containers();
     Ok(())
 }

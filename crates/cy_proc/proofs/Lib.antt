@@ -1,3 +1,5 @@
+pub mod Built
+pub mod Plain
 pub mod Lines
 pub mod Requests
 mod Openings

@@ -1,7 +1,6 @@
 -- The parts that follow each thing that happens stand for the trace that follows it.
-use Rattle.std.proofs.Common.{◌≡◌, ◌≤◌, ℕ, ◌+◌, Bool, true, false, ◌&&◌, ◌||◌, cond, List, [], ◌∷◌, ◌++◌, length, take, drop, max, Option, Some, None, is_some, refl, sym, ap, ◌∙◌, subst, arith, length-drop, length-append, if◌then◌else◌}
-use Rattle.std.proofs.lemmas.Bool.{and_left, and_parts}
-use Rattle.std.proofs.lemmas.List.{drop-append-le, drop-drop}
+use Rattle.std.proofs.Common.{◌≡◌, ◌≤◌, ℕ, ◌+◌, Bool, true, false, ◌&&◌, ◌||◌, cond, List, [], ◌∷◌, ◌++◌, length, take, drop, max, Option, Some, None, is_some, refl, sym, ap, ◌∙◌, subst, arith, length-drop, length-append, length-take-le, if◌then◌else◌}
+use Rattle.std.proofs.lemmas.Bool.{and_parts}
 use Rattle.std.proofs.lemmas.List.Elements.{All-cons, All-weaker}
 use Rattle.cy_event.specs.declared.limits.Limits.{Limits}
 use Rattle.cy_event.specs.declared.steps.CloseCause.{CloseCause}
@@ -11,19 +10,39 @@ use Rattle.cy_event.specs.declared.steps.Event.{Event}
 use Rattle.cy_event.specs.declared.steps.Event.TheVariants as event
 use Rattle.cy_event.specs.declared.steps.Reply.{Reply}
 use Rattle.cy_event.specs.declared.steps.Reply.TheVariants as reply
-use Rattle.cy_model.specs.Entries.{event_mark, event_reply, is_closed_by, is_closed_to, rested_event, room, sent_of}
-use Rattle.cy_model.specs.Folds.{answer_of, begin_text, bytes_of, cause_of, connection_by, consumed, earlier, finish_by, has_ended, is_broken, is_gone, is_kept, minor_of_request, output, took, unread, unsent, unsent_by}
+use Rattle.cy_model.specs.Entries.{event_marks, event_reply, is_closed_by, is_closed_to, rested_event, sent_of}
+use Rattle.cy_event.specs.AnswerModes.{has_no_content}
+use Rattle.cy_event.specs.Answering.{Sending}
+use Rattle.cy_model.specs.Folds.{bytes_of, cause_of, earlier, has_ended, is_broken, is_open, last_taken}
+use Rattle.cy_model.specs.Inputs.{consumed, head_end, room, unread}
+use Rattle.cy_model.specs.Outputs.{answer_of, answering_of, begin_text, end_by, is_gone, is_silent, sending_of, took, unsent, writing}
 use Rattle.cy_model.specs.Marks.{Mark, ended, came, sent, began, refused, over, caused, TakenUp, Trace}
-use Rattle.cy_model.specs.Settling.{after_move, end_marks_by, first_move, front_of, is_awaited, may_begin, quiet_step, rested, with_marks}
-use Rattle.cy_model.proofs.Settlings.{may_begin-parts, rested-done, rested-step, unread-began}
-use Rattle.cy_model.proofs.Gone.{may_not_begin}
+use Rattle.cy_event.specs.Answers.{Answer}
+use Rattle.cy_model.specs.Settling.{after_move, first_move, front_of, is_awaited, last_answer_marks, may_begin, may_begin_by, quiet_step, rested, with_marks}
+use Rattle.cy_model.specs.Unbuilt.{NothingUnbuilt, is_unbuilt_cause, is_unbuilt_request}
+use Rattle.cy_model.proofs.Built.{IsPlain, has_whole, mark_plain, plain_of}
+use Rattle.cy_model.proofs.Moves.{may_begin-parts}
 use Rattle.cy_proc.specs.Lines.{LineParts, line_parts, IsSound, NoneLater, Represents}
-use Rattle.cy_proc.specs.LineChanges.{after_begin, after_end_of, after_event, after_refusal, after_rest, after_told, at_moment, cause_after, ends_at_rest, event_answer, is_closed_line, told_answer}
+use Rattle.cy_proc.proofs.Plain.{ends_now, finish_text, plain_silent, rested_is, unread-began, unread-came, unread-same}
+use Rattle.cy_proc.specs.Processors.{uncut}
+use Rattle.cy_proc.specs.LineChanges.{connection_by, after_begin, after_end_of, after_event, after_refusal, after_rest, after_told, at_moment, cause_after, ends_at_rest, event_answer, is_closed_line, told_answer}
 use Rattle.cy_proc.specs.LineAnswers.{AnswersEvent}
+use Rattle.cy_proc.proofs.Built.{built_more}
 
 -- what holds at the parts of a trace holds at each value that stands for it
 pub at_parts : (T : Trace) (l : LineParts) (P : LineParts → Type 0) → Represents T l → (Represents T (line_parts l.moment T) → P (line_parts l.moment T)) → P l
 at_parts T l P s h = subst P (sym s.same) (h (record { same = refl; sound = s.sound; none_later = s.none_later }))
+
+-- nothing that isn't built stands in the trace
+pub plainly : (T : Trace) → IsSound T → IsPlain T
+plainly T s = plain_of T s.built
+
+-- nothing breaks so far
+pub whole : {T : Trace} → IsSound T → is_broken T ≡ false
+whole {T} s = (plainly T s).whole
+
+pub both : (v : Bool) → v ≡ true → v ≡ false → ⊥
+both v p q = cc
 
 -- ---- moments
 
@@ -68,12 +87,13 @@ told_moment limits e b l =
 came_stands : (t : ℕ) (b : List ℕ) (T : Trace) (l : LineParts) → t ≤ l.moment → Represents T l → Represents ((t, came b) ∷ T) (record l { unread = l.unread ++ b; came = l.came + length b })
 came_stands t b T l by s = record {
   same = ap (λ (k : LineParts). record k { unread = k.unread ++ b; came = k.came + length b }) s.same
-      ∙ ap (λ (u : List ℕ). record (line_parts l.moment T) { unread = u; came = length (bytes_of T) + length b }) (sym (drop-append-le (consumed T) (bytes_of T) b s.sound.consumed_came))
+      ∙ ap (λ (u : List ℕ). record (line_parts l.moment T) { unread = u; came = length (bytes_of T) + length b }) (sym (unread-came t b T (plainly T s.sound) s.sound.heads_came))
       ∙ ap (λ (n : ℕ). record (line_parts l.moment ((t, came b) ∷ T)) { came = n }) (sym (length-append (bytes_of T) b));
   sound = record {
-    consumed_came = omega (arith, s.sound.consumed_came, length-append (bytes_of T) b);
-    took_written = s.sound.took_written;
-    whole = s.sound.whole;
+    heads_came = omega (arith, s.sound.heads_came, length-append (bytes_of T) b);
+    took_past = s.sound.took_past;
+    built = built_more t (came b) T refl s.sound.built;
+    calm = s.sound.calm;
   };
   none_later = marks_by t l.moment (came b ∷ []) T by s.none_later;
 }
@@ -81,33 +101,23 @@ came_stands t b T l by s = record {
 ended_stands : (t : ℕ) (T : Trace) (l : LineParts) → t ≤ l.moment → Represents T l → Represents ((t, ended) ∷ T) (record l { has_ended = true })
 ended_stands t T l by s = record {
   same = ap (λ (k : LineParts). record k { has_ended = true }) s.same;
-  sound = record { consumed_came = s.sound.consumed_came; took_written = s.sound.took_written; whole = s.sound.whole };
+  sound = record { heads_came = s.sound.heads_came; took_past = s.sound.took_past; built = built_more t ended T refl s.sound.built; calm = s.sound.calm };
   none_later = marks_by t l.moment (ended ∷ []) T by s.none_later;
 }
 
--- what waits for the socket of a connection that isn't broken
-pub unsent_whole : (T : Trace) → is_broken T ≡ false → unsent T ≡ drop (took T) (output T)
-unsent_whole T whole = ap (λ (v : Bool). unsent_by v (took T) (output T)) whole
-
-unsent-sent : (t n : ℕ) (T : Trace) → is_broken T ≡ false → drop n (unsent T) ≡ unsent ((t, sent n) ∷ T)
-unsent-sent t n T whole =
-    ap (drop n) (unsent_whole T whole)
-    ∙ drop-drop n (took T) (output T)
-    ∙ sym (unsent_whole ((t, sent n) ∷ T) whole)
-
 sent_stands : (t n : ℕ) (T : Trace) (l : LineParts) → t ≤ l.moment → n ≤ length (unsent T) → Represents T l → Represents ((t, sent n) ∷ T) (record l { unsent = drop n l.unsent })
 sent_stands t n T l by few s = record {
-  same = ap (λ (k : LineParts). record k { unsent = drop n k.unsent }) s.same
-      ∙ ap (λ (u : List ℕ). record (line_parts l.moment T) { unsent = u }) (unsent-sent t n T s.sound.whole);
+  same = ap (λ (k : LineParts). record k { unsent = drop n k.unsent }) s.same;
   sound = record {
-    consumed_came = s.sound.consumed_came;
-    took_written = omega (arith, s.sound.took_written, few, ap length (unsent_whole T s.sound.whole), length-drop (took T) (output T));
-    whole = s.sound.whole;
+    heads_came = s.sound.heads_came;
+    took_past = omega (arith, s.sound.took_past, length-append (writing T).past (take n (unsent T)), length-take-le n (unsent T) few);
+    built = built_more t (sent n) T refl s.sound.built;
+    calm = s.sound.calm;
   };
   none_later = marks_by t l.moment (sent n ∷ []) T by s.none_later;
 }
 
-mark_stands : (t : ℕ) (e : Event) (b : List ℕ) (T : Trace) (l : LineParts) → t ≤ l.moment → Represents T l → Represents ((t, event_mark T e b) ∷ T) (after_event e b l)
+mark_stands : (t : ℕ) (e : Event) (b : List ℕ) (T : Trace) (l : LineParts) → t ≤ l.moment → Represents T l → Represents (with_marks t (event_marks T e b) T) (after_event e b l)
 mark_stands t event.In b T l by s =
     at_parts T l (λ k. Represents ((t, came (take (room T) b)) ∷ T) (after_event event.In b k)) s
     (λ own. came_stands t (take (room T) b) T (line_parts l.moment T) by own)
@@ -118,36 +128,38 @@ mark_stands t (event.Took n) b T l by s =
 
 -- ---- resting
 
-caused_stands : (t : ℕ) (k : CloseCause) (T : Trace) (l : LineParts) → t ≤ l.moment → cause_of T ≡ None → Represents T l → Represents ((t, caused k) ∷ T) (record l { cause = Some k })
-caused_stands t k T l by none s = record {
+caused_stands : (t : ℕ) (k : CloseCause) (T : Trace) (l : LineParts) → is_unbuilt_cause k ≡ false → t ≤ l.moment → is_open T ≡ false → cause_of T ≡ None → Represents T l → Represents ((t, caused k) ∷ T) (record l { cause = Some k })
+caused_stands t k T l built by closed none s = record {
   same = ap (λ (p : LineParts). record p { cause = Some k }) s.same
       ∙ ap (λ (c : Option CloseCause). record (line_parts l.moment T) { cause = earlier c k }) (sym none);
-  sound = record { consumed_came = s.sound.consumed_came; took_written = s.sound.took_written; whole = s.sound.whole };
+  sound = record {
+    heads_came = s.sound.heads_came;
+    took_past = s.sound.took_past;
+    built = built_more t (caused k) T built s.sound.built;
+    calm = λ o. absurd (both (is_open T) o closed);
+  };
   none_later = marks_by t l.moment (caused k ∷ []) T by s.none_later;
 }
 
-pub quiet_by : (limits : Limits) (t : ℕ) (T : Trace) (v : Bool) → (may_begin T && (has_ended T && is_awaited (front_of limits T))) ≡ v → quiet_step limits t T ≡ after_move t T (cond v (Some (caused InputEnd ∷ [])) None)
-quiet_by limits t T true e = ap (λ (b : Bool). after_move t T (first_move (cond b (Some (caused InputEnd ∷ [])) None ∷ []))) e
-quiet_by limits t T false e = ap (λ (b : Bool). after_move t T (first_move (cond b (Some (caused InputEnd ∷ [])) None ∷ []))) e
-
-has_cause : (c : Option CloseCause) (k : CloseCause) → is_some (earlier c k) ≡ true
-has_cause None k = refl
-has_cause (Some first) k = refl
+-- whether no further head can come is seen by a line
+ends_at : (limits : Limits) (T : Trace) (m : ℕ) → IsPlain T → ends_now limits T ≡ ends_at_rest limits (line_parts m T)
+ends_at limits T m p =
+    ap (λ (v : Bool). may_begin_by (is_open T) (cause_of T) v (unsent T) && (has_ended T && is_awaited (front_of limits T))) (has_whole T p)
 
 pub rest_stands : (limits : Limits) (t : ℕ) (T : Trace) (l : LineParts) → t ≤ l.moment → Represents T l → Represents (rested limits t T) (after_rest limits l)
 rest_stands limits t T l by s =
-    let test = may_begin T && (has_ended T && is_awaited (front_of limits T)) in
     let R : Trace = (t, caused InputEnd) ∷ T in
+    let p = plainly T s.sound in
     at_parts T l (λ k. Represents (rested limits t T) (after_rest limits k)) s
     (λ own.
-    elim test as (λ v. test ≡ v → Represents (rested limits t T) (if v then record (line_parts l.moment T) { cause = Some InputEnd } else line_parts l.moment T)) [
+    subst (λ (S : Trace). Represents S (after_rest limits (line_parts l.moment T))) (sym (rested_is limits t T p))
+    (subst (λ (v : Bool). Represents (if ends_now limits T then R else T) (if v then record (line_parts l.moment T) { cause = Some InputEnd } else line_parts l.moment T)) (ends_at limits T l.moment p)
+    (elim (ends_now limits T) as (λ v. ends_now limits T ≡ v → Represents (if v then R else T) (if v then record (line_parts l.moment T) { cause = Some InputEnd } else line_parts l.moment T)) [
       | true ↦ λ e.
-          let may = (and_parts (may_begin T) (has_ended T && is_awaited (front_of limits T)) e).0 in
-          let done = rested-done limits t R (quiet_by limits t R false (and_left (may_begin R) (has_ended R && is_awaited (front_of limits R)) (may_not_begin R (has_cause (cause_of T) InputEnd)))) in
-          subst (λ (S : Trace). Represents S (record (line_parts l.moment T) { cause = Some InputEnd })) (sym (rested-step limits t T R (quiet_by limits t T true e) ∙ done))
-          (caused_stands t InputEnd T (line_parts l.moment T) by (may_begin-parts T may).1 own)
-      | false ↦ λ e. subst (λ (S : Trace). Represents S (line_parts l.moment T)) (sym (rested-done limits t T (quiet_by limits t T false e))) own
-    ] refl)
+          let may = may_begin-parts T (and_parts (may_begin T) (has_ended T && is_awaited (front_of limits T)) e).0 in
+          caused_stands t InputEnd T (line_parts l.moment T) refl by may.0 may.1 own
+      | false ↦ λ e. own
+    ] refl)))
 
 -- ---- what the socket tells
 
@@ -159,19 +171,19 @@ answers_event (event.Took n) b m T = refl
 told_by : (limits : Limits) (t : ℕ) (e : Event) (b : List ℕ) (T : Trace) (l : LineParts) (v : Bool) → is_closed_to e T ≡ v → t ≤ l.moment → Represents T l → event_answer e b l ≡ event_reply T e b → AnswersEvent limits t e b T (if v then reply.Closed else event_answer e b l) (if v then l else after_rest limits (after_event e b l))
 told_by limits t e b T l true closed by s same = record {
   reply = sym (ap (λ (v : Bool). if v then reply.Closed else event_reply T e b) closed);
-  stands = subst (λ (S : Trace). Represents S l) (sym (ap (λ (v : Bool). if v then T else rested limits t ((t, event_mark T e b) ∷ T)) closed)) s;
+  stands = subst (λ (S : Trace). Represents S l) (sym (ap (λ (v : Bool). if v then T else rested limits t (with_marks t (event_marks T e b) T)) closed)) s;
 }
 told_by limits t e b T l false closed by s same = record {
   reply = same ∙ sym (ap (λ (v : Bool). if v then reply.Closed else event_reply T e b) closed);
-  stands = subst (λ (S : Trace). Represents S (after_rest limits (after_event e b l))) (sym (ap (λ (v : Bool). if v then T else rested limits t ((t, event_mark T e b) ∷ T)) closed))
-      (rest_stands limits t ((t, event_mark T e b) ∷ T) (after_event e b l) (subst (λ (m : ℕ). t ≤ m) (sym (marked_moment e b l)) by) (mark_stands t e b T l by s));
+  stands = subst (λ (S : Trace). Represents S (after_rest limits (after_event e b l))) (sym (ap (λ (v : Bool). if v then T else rested limits t (with_marks t (event_marks T e b) T)) closed))
+      (rest_stands limits t (with_marks t (event_marks T e b) T) (after_event e b l) (subst (λ (m : ℕ). t ≤ m) (sym (marked_moment e b l)) by) (mark_stands t e b T l by s));
 }
 
 told_answers : (limits : Limits) (t : ℕ) (e : Event) (b : List ℕ) (T : Trace) (l : LineParts) → t ≤ l.moment → Represents T l → AnswersEvent limits t e b T (told_answer e b l) (after_told limits e b l)
 told_answers limits t e b T l by s =
     at_parts T l (λ k. AnswersEvent limits t e b T (told_answer e b k) (after_told limits e b k)) s
     (λ own. told_by limits t e b T (line_parts l.moment T) (is_closed_line e (line_parts l.moment T))
-    (ap (λ (v : Bool). is_closed_by e (cause_of T) (has_ended T) (is_gone T) v) s.sound.whole) by own (answers_event e b l.moment T))
+    (ap (λ (v : Bool). is_closed_by e (cause_of T) (has_ended T) (is_gone T) v) (whole s.sound)) by own (answers_event e b l.moment T))
 
 -- an event that comes at the later of two moments, as a line takes it
 pub told_from : (limits : Limits) (at : ℕ) (e : Event) (b : List ℕ) (T : Trace) (old moved new : LineParts) (r : Reply) → Represents T old → moved ≡ at_moment at old → r ≡ told_answer e b moved → new ≡ after_told limits e b moved → AnswersEvent limits new.moment e b T r new
@@ -186,94 +198,86 @@ pub rest_from : (limits : Limits) (T : Trace) (old new : LineParts) → Represen
 rest_from limits T old new s parts =
     subst (Represents (rested limits old.moment T)) (sym parts) (rest_stands limits old.moment T old (omega arith) s)
 
--- ---- what is written
-
--- what is written waits behind what waits
-unsent_grows : (T R : Trace) (x : List ℕ) → is_broken T ≡ false → is_broken R ≡ false → took R ≡ took T → output R ≡ output T ++ x → took T ≤ length (output T) → unsent R ≡ unsent T ++ x
-unsent_grows T R x whole still same grown within =
-    unsent_whole R still
-    ∙ ap (λ (n : ℕ). drop n (output R)) same
-    ∙ ap (drop (took T)) grown
-    ∙ drop-append-le (took T) (output T) x within
-    ∙ sym (ap (λ (u : List ℕ). u ++ x) (unsent_whole T whole))
-
 -- ---- taking up a head
 
 -- a head is refused
-pub refused_stands : (status : ℕ) (to_head : Bool) (T : Trace) (l : LineParts) → cause_of T ≡ None → Represents T l → Represents ((l.moment, caused Refused) ∷ (l.moment, refused status to_head) ∷ T) (after_refusal status to_head l)
-refused_stands status to_head T l none s =
+pub refused_stands : (status : ℕ) (to_head : Bool) (T : Trace) (l : LineParts) → is_open T ≡ false → cause_of T ≡ None → Represents T l → Represents ((l.moment, caused Refused) ∷ (l.moment, refused status to_head) ∷ T) (after_refusal status to_head l)
+refused_stands status to_head T l closed none s =
     let m = l.moment in
     let R : Trace = (m, caused Refused) ∷ (m, refused status to_head) ∷ T in
     let text = refusal_text status to_head m in
-    let grown = unsent_grows T R text s.sound.whole s.sound.whole refl refl s.sound.took_written in
     at_parts T l (λ k. Represents R (record k { unsent = k.unsent ++ refusal_text status to_head k.moment; cause = Some Refused })) s
     (λ own. record {
-      same = ap (λ (u : List ℕ). record (line_parts m T) { unsent = u; cause = Some Refused }) (sym grown)
-          ∙ ap (λ (c : Option CloseCause). record (line_parts m T) { unsent = unsent R; cause = earlier c Refused }) (sym none);
+      same = ap (λ (c : Option CloseCause). record (line_parts m T) { unsent = unsent T ++ text; cause = earlier c Refused }) (sym none);
       sound = record {
-        consumed_came = s.sound.consumed_came;
-        took_written = omega (arith, s.sound.took_written, length-append (output T) text);
-        whole = s.sound.whole;
+        heads_came = s.sound.heads_came;
+        took_past = s.sound.took_past;
+        built = built_more m (caused Refused) ((m, refused status to_head) ∷ T) refl (built_more m (refused status to_head) T refl s.sound.built);
+        calm = λ o. absurd (both (is_open T) o closed);
       };
       none_later = marks_at (refused status to_head ∷ caused Refused ∷ []) T l s;
     })
 
 -- a request begins
-pub began_stands : (r : TakenUp) (T : Trace) (l : LineParts) → r.place ≡ consumed T → r.size ≤ length (unread T) → Represents T l → Represents ((l.moment, began r) ∷ T) (after_begin r.size r.go_on l)
-began_stands r T l at_place fits s =
+pub began_stands : (r : TakenUp) (T : Trace) (l : LineParts) → r.place ≡ consumed T → r.size ≤ length (unread T) → is_unbuilt_request r ≡ false → cause_of T ≡ None → 1 ≤ r.size → Represents T l → Represents ((l.moment, began r) ∷ T) (after_begin r.size r.go_on l)
+began_stands r T l at_place fits built none some s =
     let m = l.moment in
     let R : Trace = (m, began r) ∷ T in
-    let text = begin_text r.go_on in
-    let grown = unsent_grows T R text s.sound.whole s.sound.whole refl refl s.sound.took_written in
+    let now = built_more m (began r) T built s.sound.built in
     at_parts T l (λ k. Represents R (after_begin r.size r.go_on k)) s
     (λ own. record {
-      same = ap (λ (u : List ℕ). record (after_begin r.size r.go_on (line_parts m T)) { unread = u }) (sym (unread-began m T r at_place))
-          ∙ ap (λ (u : List ℕ). record (line_parts m R) { unsent = u }) (sym grown);
+      same = ap (λ (u : List ℕ). record (after_begin r.size r.go_on (line_parts m T)) { unread = u }) (sym (unread-began m T r (plain_of R now) at_place));
       sound = record {
-        consumed_came = omega (arith, s.sound.consumed_came, at_place, fits, length-drop (consumed T) (bytes_of T));
-        took_written = omega (arith, s.sound.took_written, length-append (output T) text);
-        whole = s.sound.whole;
+        heads_came = omega (arith, at_place, fits, some, length-drop (consumed T) (bytes_of T));
+        took_past = s.sound.took_past;
+        built = now;
+        calm = λ o. none;
       };
       none_later = marks_at (began r ∷ []) T l s;
     })
 
 -- ---- the end of a request
 
-cause_is : (keep : Bool) (c : Option CloseCause) → (if keep || is_some c then c else earlier c LastAnswer) ≡ cause_after keep c
-cause_is true None = refl
-cause_is false None = refl
-cause_is true (Some k) = refl
-cause_is false (Some k) = refl
+-- what waits for the socket once the answer is written
+over_unsent : (T : Trace) (m minor : ℕ) (keep : Bool) (a : Answer) → IsPlain T → sending_of T ≡ uncut minor keep a → answer_of T ≡ a → has_no_content a.status ≡ false → a.set_length ≡ None → cause_of T ≡ None
+    → unsent ((m, over) ∷ T) ≡ unsent T ++ answer_text a m (connection_by keep None minor)
+over_unsent T m minor keep a p sent_so is content unset none =
+    let silent = plain_silent T p in
+    (λ i. (end_by (none i) (silent i) (is i) m (record { sending = sent_so i; output = unsent T })).output)
+    ∙ finish_text a m minor keep (unsent T) content unset
 
-pub over_stands : (T : Trace) (l : LineParts) → Represents T l → Represents (with_marks l.moment (end_marks_by (is_kept T) (cause_of T)) T) (after_end_of (is_kept T) (minor_of_request T) (answer_of T) l)
-over_stands T l s =
-    let m = l.moment in
+-- an end that leaves the connection open, and one that closes it
+over_parts : (keep : Bool) (T : Trace) (m minor : ℕ) (a : Answer) → IsSound T → sending_of T ≡ uncut minor keep a → answer_of T ≡ a → has_no_content a.status ≡ false → a.set_length ≡ None → cause_of T ≡ None
+    → after_end_of keep minor a (line_parts m T) ≡ line_parts m (with_marks m (over ∷ last_answer_marks keep) T)
+over_parts keep T m minor a s sent_so is content unset none =
     let O : Trace = (m, over) ∷ T in
-    let said = connection_by (is_kept T) (cause_of T) (minor_of_request T) in
-    let text = answer_text (answer_of T) m said in
-    let written : output O ≡ output T ++ text = ap (λ (v : Bool). output T ++ finish_by v said (answer_of T) m) s.sound.whole in
-    let grown = unsent_grows T O text s.sound.whole s.sound.whole refl written s.sound.took_written in
-    let sound_of : (R : Trace) → consumed R ≡ consumed T → bytes_of R ≡ bytes_of T → took R ≡ took T → output R ≡ output O → is_broken R ≡ is_broken T → IsSound R = λ R a b c d e. record {
-      consumed_came = omega (arith, a, ap length b, s.sound.consumed_came);
-      took_written = omega (arith, c, ap length (d ∙ written), s.sound.took_written, length-append (output T) text);
-      whole = e ∙ s.sound.whole;
-    } in
-    at_parts T l (λ k. Represents (with_marks m (end_marks_by (is_kept T) (cause_of T)) T) (after_end_of (is_kept T) (minor_of_request T) (answer_of T) k)) s
-    (λ own.
-    let parts : LineParts = record (line_parts m T) { unsent = unsent T ++ text; is_open = false; cause = cause_after (is_kept T) (cause_of T) } in
-    let last : LineParts = record (line_parts m T) { unsent = unsent O; is_open = false; cause = cause_after (is_kept T) (cause_of T) } in
-    let same : parts ≡ last = ap (λ (u : List ℕ). record (line_parts m T) { unsent = u; is_open = false; cause = cause_after (is_kept T) (cause_of T) }) (sym grown) in
-    elim (is_kept T || is_some (cause_of T)) as (λ v. is_kept T || is_some (cause_of T) ≡ v → Represents (with_marks m (over ∷ cond v [] (caused LastAnswer ∷ [])) T) parts) [
-      | true ↦ λ e. record {
-        same = same ∙ ap (λ (c : Option CloseCause). record (line_parts m T) { unsent = unsent O; is_open = false; cause = c })
-            (sym (cause_is (is_kept T) (cause_of T)) ∙ ap (λ (v : Bool). if v then cause_of T else earlier (cause_of T) LastAnswer) e);
-        sound = sound_of O refl refl refl refl refl;
-        none_later = marks_at (over ∷ []) T l s;
-      }
-      | false ↦ λ e. record {
-        same = same ∙ ap (λ (c : Option CloseCause). record (line_parts m T) { unsent = unsent O; is_open = false; cause = c })
-            (sym (cause_is (is_kept T) (cause_of T)) ∙ ap (λ (v : Bool). if v then cause_of T else earlier (cause_of T) LastAnswer) e);
-        sound = sound_of ((m, caused LastAnswer) ∷ O) refl refl refl refl refl;
-        none_later = marks_at (over ∷ caused LastAnswer ∷ []) T l s;
-      }
-    ] refl)
+    let p = plainly T s in
+    let text = sym (over_unsent T m minor keep a p sent_so is content unset none) in
+    let bytes = sym (unread-same T O p (mark_plain m T p over refl) refl refl) in
+    (λ i. record (line_parts m T) { unsent = unsent T ++ answer_text a m (connection_by keep (none i) minor); is_open = false; cause = cause_after keep (none i) })
+    ∙ (λ i. record (line_parts m T) { unread = bytes i; unsent = text i; is_open = false; cause = cause_after keep None })
+    ∙ by_keep keep
+  where
+    by_keep : (v : Bool) → record (line_parts m T) { unread = unread ((m, over) ∷ T); unsent = unsent ((m, over) ∷ T); is_open = false; cause = cause_after v None } ≡ line_parts m (with_marks m (over ∷ last_answer_marks v) T)
+    by_keep true = ap (λ (c : Option CloseCause). record (line_parts m T) { unread = unread ((m, over) ∷ T); unsent = unsent ((m, over) ∷ T); is_open = false; cause = c }) (sym none)
+    by_keep false = ap (λ (c : Option CloseCause). record (line_parts m T) { unread = unread ((m, over) ∷ T); unsent = unsent ((m, over) ∷ T); is_open = false; cause = earlier c LastAnswer }) (sym none)
+
+over_sound : (keep : Bool) (T : Trace) (m : ℕ) → IsSound T → IsSound (with_marks m (over ∷ last_answer_marks keep) T)
+over_sound true T m s = record { heads_came = s.heads_came; took_past = s.took_past; built = built_more m over T refl s.built; calm = λ o. cc }
+over_sound false T m s = record {
+  heads_came = s.heads_came;
+  took_past = s.took_past;
+  built = built_more m (caused LastAnswer) ((m, over) ∷ T) refl (built_more m over T refl s.built);
+  calm = λ o. cc;
+}
+
+pub over_stands : (T : Trace) (l : LineParts) (minor : ℕ) (keep : Bool) (a : Answer) → sending_of T ≡ uncut minor keep a → answer_of T ≡ a → has_no_content a.status ≡ false → a.set_length ≡ None → cause_of T ≡ None → Represents T l
+    → Represents (with_marks l.moment (over ∷ last_answer_marks keep) T) (after_end_of keep minor a l)
+over_stands T l minor keep a sent_so is content unset none s =
+    let m = l.moment in
+    at_parts T l (λ k. Represents (with_marks m (over ∷ last_answer_marks keep) T) (after_end_of keep minor a k)) s
+    (λ own. record {
+      same = over_parts keep T m minor a s.sound sent_so is content unset none;
+      sound = over_sound keep T m s.sound;
+      none_later = marks_at (over ∷ last_answer_marks keep) T l s;
+    })

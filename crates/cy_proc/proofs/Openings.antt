@@ -1,11 +1,11 @@
 -- A head that is taken up or refused: the parts that follow stand for the trace that follows.
-use Rattle.std.proofs.Common.{◌≡◌, ◌≤◌, ℕ, ◌+◌, ◌<◌, Bool, true, false, not, ◌&&◌, leb, List, [], ◌∷◌, length, map, Option, Some, None, is_none, refl, sym, ap, ◌∙◌, subst, arith, length-drop, codes, bytes_eq, if◌then◌else◌}
+use Rattle.std.proofs.Common.{◌≡◌, ◌≤◌, inl, ℕ, ◌+◌, ◌<◌, ◌++◌, Bool, true, false, not, ◌&&◌, ◌||◌, leb, List, [], ◌∷◌, length, map, Option, Some, None, is_none, refl, sym, ap, ◌∙◌, subst, arith, length-drop, codes, bytes_eq, if◌then◌else◌}
 use Rattle.std.proofs.lemmas.Bool.{and_parts}
 use Rattle.std.proofs.lemmas.List.{append-nil}
 use Rattle.cy_event.specs.declared.limits.Limits.{Limits}
 use Rattle.cy_event.specs.declared.steps.CloseCause.{CloseCause}
 use Rattle.cy_event.specs.declared.steps.CloseCause.TheVariants.{InputEnd, Refused}
-use Rattle.cy_event.specs.Answers.{error_answer as error_answer_of}
+use Rattle.cy_event.specs.Answers.{Answer, error_answer as error_answer_of, fresh_answer}
 use Rattle.cy_event.specs.Charts.{chart_of}
 use Rattle.cy_event.specs.Framings.{bad_request}
 use Rattle.cy_event.specs.Heads.{Head, Front, awaited, found, malformed, head_of}
@@ -15,11 +15,17 @@ use Rattle.cy_event.proofs.Fronts.{front_length-bounds, head_of-found}
 use Rattle.cy_head.specs.Answers.{answer_to, just_read}
 use Rattle.cy_head.specs.declared.front.Front.TheVariants as answer
 use Rattle.cy_map.specs.declared.rule.Rule.{Rule}
-use Rattle.cy_model.specs.Folds.{begun_count, cause_of, consumed, unread}
-use Rattle.cy_model.specs.Marks.{Mark, began, refused, error_answer, caused, TakenUp, Trace}
-use Rattle.cy_model.specs.Settling.{Due, nothing, refusal, not_found, request, due_by_front, due_by_verdict, due_move, due_of, end_marks_by, front_of, is_awaited, is_last_number, may_begin, begin_bound, rested, taken_up, with_marks, after_move}
-use Rattle.cy_model.specs.Verdicts.{Verdict, turned_away, unserved, served, is_head_method, not_found_status, verdict_of}
-use Rattle.cy_model.proofs.Settlings.{DueTakes, due_takes, may_begin-parts}
+use Rattle.cy_event.specs.Answering.{beginning}
+use Rattle.cy_model.specs.Folds.{begun_count, calls, cause_of, ended_charts, is_open}
+use Rattle.cy_model.specs.Inputs.{consumed, unread}
+use Rattle.cy_model.specs.Outputs.{asked_of, unsent}
+use Rattle.cy_model.specs.Marks.{Mark, began, refused, error_answer, over, caused, TakenUp, Trace}
+use Rattle.cy_model.specs.Settling.{Due, nothing, refusal, not_found, request, due_by_front, due_by_verdict, due_move, due_of, front_of, is_awaited, is_last_number, last_answer_marks, may_begin, may_begin_by, begin_bound, rested, taken_up, with_marks, after_move}
+use Rattle.cy_model.specs.Unbuilt.{is_unbuilt_request}
+use Rattle.cy_model.specs.Verdicts.{Verdict, turned_away, unserved, served, is_framed, is_head_method, not_found_status, verdict_of}
+use Rattle.cy_model.proofs.Built.{has_whole}
+use Rattle.cy_model.proofs.Moves.{may_begin-parts}
+use Rattle.cy_model.proofs.Settlings.{DueTakes, due_takes}
 use Rattle.cy_target.specs.Kept.{with_target}
 use Rattle.cy_proc.specs.Judging.{IsVerdict}
 use Rattle.cy_proc.specs.declared.verdict.Judgement.TheVariants as judged
@@ -27,10 +33,11 @@ use Rattle.cy_proc.specs.Lines.{LineParts, Represents}
 use Rattle.cy_proc.specs.LineChanges.{after_begin, after_end_of, after_refusal, after_rest, ends_at_rest, front_at, is_due, causes_left, may_begin_line, work_of}
 use Rattle.cy_proc.specs.ProcessorAnswers.{Serves, ServesAfter, TakesUp, ended_items}
 use Rattle.cy_proc.specs.ProcessorChanges.{due_at, due_of_head, line_with, processor_with, with_request}
-use Rattle.cy_proc.specs.Processors.{IsEndedRequest, IsIdle, ProcessorParts, StandsAt, StandsFor, fresh_processor, request_folds, table_of}
+use Rattle.cy_proc.specs.Processors.{IsIdle, IsOfRequest, IsServiceAlone, ProcessorParts, RequestFolds, StandsFor, fresh_processor, is_open_at, request_folds, service_by, stage_by, uncut, waiting_content}
 use Rattle.cy_proc.specs.declared.processor.Stage.TheVariants as stage
-use Rattle.cy_proc.proofs.Lines.{began_stands, marks_at, over_stands, refused_stands, rest_moment, rest_stands}
-use Rattle.cy_proc.proofs.Requests.{charts_same, ended_serves, over_ends, rested_same, stands_same}
+use Rattle.cy_proc.proofs.Built.{IsBuiltDue, built_more, due_built}
+use Rattle.cy_proc.proofs.Lines.{began_stands, marks_at, over_stands, plainly, refused_stands, rest_moment, rest_stands}
+use Rattle.cy_proc.proofs.Requests.{ended_serves, head_kept, over_ends, rested_same, stands_idle, stands_same}
 
 -- ---- what the code does
 
@@ -52,17 +59,12 @@ unserved_line limits number size head l (turned_away s) keep is = absurd is
 unserved_line limits number size head l (unserved f) keep is = ap (λ (k : Bool). after_end_of (k && not (is_last_number limits.max_keep_alive number)) head.minor (error_answer_of not_found_status) (after_begin size false l)) (sym is)
 unserved_line limits number size head l (served rule f) keep is = absurd is
 
--- reading a target changes nothing of the head
-same_head : (o : Option PathAndQuery) (parts : RequestParts) → (with_target o parts).head ≡ parts.head
-same_head None parts = refl
-same_head (Some named) parts = refl
-
 pub unserved_from : (limits : Limits) (rules : List Rule) (size minor : ℕ) (said keep : Bool) (old new : RequestParts) (l begun k : LineParts) → IsVerdict (verdict_of rules old.head) (judged.Unserved said) → new ≡ with_target (target_of old.head.method old.head.target) old → keep ≡ (said && not (is_last_number limits.max_keep_alive (l.begun + 1))) → minor ≡ new.head.minor → begun ≡ after_begin size false l → k ≡ after_end_of keep minor (error_answer_of not_found_status) begun → k ≡ line_with (due_of_head limits rules size old.head l) l
 unserved_from limits rules size minor said keep old new l begun k is same kept numbered begin finished =
     finished
     ∙ ap (λ (v : Bool). after_end_of v minor (error_answer_of not_found_status) begun) kept
     ∙ ap (λ (n : ℕ). after_end_of (said && not (is_last_number limits.max_keep_alive (l.begun + 1))) n (error_answer_of not_found_status) begun)
-    (numbered ∙ ap (λ (r : RequestParts). r.head.minor) same ∙ ap (λ (h : Head). h.minor) (same_head (target_of old.head.method old.head.target) old))
+    (numbered ∙ ap (λ (r : RequestParts). r.head.minor) same ∙ ap (λ (h : Head). h.minor) (head_kept (target_of old.head.method old.head.target) old))
     ∙ ap (after_end_of (said && not (is_last_number limits.max_keep_alive (l.begun + 1))) old.head.minor (error_answer_of not_found_status)) begin
     ∙ sym (unserved_line limits (l.begun + 1) size old.head l (verdict_of rules old.head) said is)
 
@@ -122,94 +124,148 @@ record Taken (limits : Limits) (T : Trace) (d : Due) (l k : LineParts) (p : Proc
   moved : due_move d ≡ Some marks
   follows : ServesAfter T (rested limits l.moment (with_marks l.moment marks T)) k p
 
--- the head of a table
-head_minor : (h : Head) → h.minor ≡ (table_of h).head.minor
-head_minor h = sym (ap (λ (k : Head). k.minor) (same_head (target_of h.method h.target) (just_read h)))
+-- a refused head leaves no request
+refusal_parts : (limits : Limits) (status : ℕ) (to_head : Bool) (T : Trace) (t : ℕ) → is_open T ≡ false → IsOfRequest (request_folds ((t, caused Refused) ∷ (t, refused status to_head) ∷ T)) (record (fresh_processor limits) { stage = stage.Refused })
+refusal_parts limits status to_head T t closed = record {
+  same = sym (ap (λ (v : Bool). record (fresh_processor limits) { stage = stage_by v true None None; content = waiting_content v fresh_answer }) closed);
+  alone = record {
+    minor = refl;
+    begun = refl;
+    taken = λ o. cc;
+    state = refl;
+    running = sym (ap (λ (v : Bool). service_by v false 0) closed);
+    calls = λ o. refl;
+    answer = λ o. refl;
+    few = λ o. omega arith;
+    sending = λ o. refl;
+  };
+}
 
-refusal_taken : (limits : Limits) (T : Trace) (status : ℕ) (to_head : Bool) (l : LineParts) → IsIdle (request_folds T) → cause_of T ≡ None → Represents T l → Taken limits T (refusal status to_head) l (after_rest limits (after_refusal status to_head l)) (fresh_processor limits)
+refusal_taken : (limits : Limits) (T : Trace) (status : ℕ) (to_head : Bool) (l : LineParts) → IsIdle (request_folds T) → cause_of T ≡ None → Represents T l → Taken limits T (refusal status to_head) l (after_rest limits (after_refusal status to_head l)) (record (fresh_processor limits) { stage = stage.Refused })
 refusal_taken limits T status to_head l idle none s =
     let m = l.moment in
     let R : Trace = (m, caused Refused) ∷ (m, refused status to_head) ∷ T in
-    let same = rested_same limits m R in
+    let q : ProcessorParts = record (fresh_processor limits) { stage = stage.Refused } in
+    let stood = refused_stands status to_head T l idle.closed none s in
+    let same = rested_same limits m R (plainly R stood.sound) in
     record {
       marks = refused status to_head ∷ caused Refused ∷ [];
       moved = refl;
       follows = record {
         serves = record {
-          line = rest_stands limits m R (after_refusal status to_head l) (omega arith) (refused_stands status to_head T l none s);
-          processor = stands_same R (rested limits m R) (fresh_processor limits) same (idle, refl);
+          line = rest_stands limits m R (after_refusal status to_head l) (omega arith) stood;
+          processor = stands_same R (rested limits m R) q same (inl (refusal_parts limits status to_head T m idle.closed));
         };
-        charts = charts_same T (rested limits m R) (fresh_processor limits) (record { folds = same.folds; charts = same.charts }) refl;
+        charts = ap (map chart_of) same.charts ∙ sym (append-nil (ended_items T));
       };
     }
 
 -- how long the head of a request is
-size_within : (limits : Limits) (T : Trace) (r : TakenUp) → front_of limits T ≡ found r.size r.head → r.size ≤ length (unread T)
-size_within limits T r front = (front_length-bounds (unread T) r.size (head_of-found limits.max_head limits.max_fields (unread T) r.size r.head front)).1
+size_bounds : (limits : Limits) (T : Trace) (r : TakenUp) → front_of limits T ≡ found r.size r.head → (1 ≤ r.size) × (r.size ≤ length (unread T))
+size_bounds limits T r front = front_length-bounds (unread T) r.size (head_of-found limits.max_head limits.max_fields (unread T) r.size r.head front)
 
-request_taken : (limits : Limits) (T : Trace) (r : TakenUp) (l : LineParts) → r.place ≡ consumed T → front_of limits T ≡ found r.size r.head → Represents T l → Taken limits T (request r) l (after_rest limits (after_begin r.size r.go_on l)) (with_request stage.Owed r (fresh_processor limits))
-request_taken limits T r l place front s =
+-- the request isn't one of HEAD
+not_head : (r : TakenUp) → is_unbuilt_request r ≡ false → is_head_method r.head ≡ false
+not_head r built = of_either (is_framed r.framing) (is_head_method r.head) built
+  where
+    of_either : (a b : Bool) → (a || b) ≡ false → b ≡ false
+    of_either true b e = cc
+    of_either false b e = e
+
+-- how its answer begins, with this content
+begins_uncut : (r : TakenUp) (a : Answer) → is_unbuilt_request r ≡ false → record (beginning (asked_of r)) { waiting = a.content } ≡ uncut r.head.minor r.keep a
+begins_uncut r a built =
+    ap (λ (v : Bool). record (beginning (record { minor = r.head.minor; is_head = v; keep = r.keep })) { waiting = a.content }) (not_head r built)
+
+-- a request that was just taken up
+begun_alone : (r : TakenUp) (T : Trace) (t : ℕ) → is_unbuilt_request r ≡ false → IsServiceAlone (request_folds ((t, began r) ∷ T))
+begun_alone r T t built = record {
+  minor = refl;
+  begun = refl;
+  taken = λ o. refl;
+  state = refl;
+  running = refl;
+  calls = λ o. refl;
+  answer = λ o. refl;
+  few = λ o. omega arith;
+  sending = λ o. begins_uncut r fresh_answer built;
+}
+
+request_taken : (limits : Limits) (T : Trace) (r : TakenUp) (l : LineParts) → r.place ≡ consumed T → front_of limits T ≡ found r.size r.head → is_unbuilt_request r ≡ false → cause_of T ≡ None → Represents T l → Taken limits T (request r) l (after_rest limits (after_begin r.size r.go_on l)) (with_request stage.Owed r (fresh_processor limits))
+request_taken limits T r l place front built none s =
     let m = l.moment in
     let R : Trace = (m, began r) ∷ T in
     let q : ProcessorParts = with_request stage.Owed r (fresh_processor limits) in
-    let same = rested_same limits m R in
-    let stands : StandsFor R q = record {
-      request = r;
-      keeps = record { table = refl; can_async = refl; progress = refl };
-      same = ap (λ (n : ℕ). record (request_folds R) { minor = n }) (head_minor r.head);
-    } in
+    let bounds = size_bounds limits T r front in
+    let stood = began_stands r T l place bounds.1 built none bounds.0 s in
+    let same = rested_same limits m R (plainly R stood.sound) in
+    let stands : StandsFor R q = inl (record { same = refl; alone = begun_alone r T m built }) in
     record {
       marks = began r ∷ [];
       moved = refl;
       follows = record {
         serves = record {
-          line = rest_stands limits m R (after_begin r.size r.go_on l) (omega arith) (began_stands r T l place (size_within limits T r front) s);
+          line = rest_stands limits m R (after_begin r.size r.go_on l) (omega arith) stood;
           processor = stands_same R (rested limits m R) q same stands;
         };
         charts = ap (map chart_of) same.charts ∙ sym (append-nil (ended_items T));
       };
     }
 
-error_mark : (status : ℕ) (T : Trace) (l : LineParts) → Represents T l → Represents ((l.moment, error_answer status) ∷ T) l
-error_mark status T l s = record {
+error_mark : (T : Trace) (l : LineParts) → Represents T l → Represents ((l.moment, error_answer not_found_status) ∷ T) l
+error_mark T l s = record {
   same = s.same;
-  sound = record { consumed_came = s.sound.consumed_came; took_written = s.sound.took_written; whole = s.sound.whole };
-  none_later = marks_at (error_answer status ∷ []) T l s;
+  sound = record {
+    heads_came = s.sound.heads_came;
+    took_past = s.sound.took_past;
+    built = built_more l.moment (error_answer not_found_status) T refl s.sound.built;
+    calm = s.sound.calm;
+  };
+  none_later = marks_at (error_answer not_found_status ∷ []) T l s;
 }
 
-not_found_taken : (limits : Limits) (T : Trace) (r : TakenUp) (l : LineParts) → r.place ≡ consumed T → front_of limits T ≡ found r.size r.head → cause_of T ≡ None → Represents T l → Taken limits T (not_found r) l (after_rest limits (after_end_of r.keep r.head.minor (error_answer_of not_found_status) (after_begin r.size r.go_on l))) (with_request stage.Over r (fresh_processor limits))
-not_found_taken limits T r l place front none s =
+not_found_taken : (limits : Limits) (T : Trace) (r : TakenUp) (l : LineParts) → r.place ≡ consumed T → front_of limits T ≡ found r.size r.head → is_unbuilt_request r ≡ false → cause_of T ≡ None → Represents T l → Taken limits T (not_found r) l (after_rest limits (after_end_of r.keep r.head.minor (error_answer_of not_found_status) (after_begin r.size r.go_on l))) (with_request stage.Over r (fresh_processor limits))
+not_found_taken limits T r l place front built none s =
     let m = l.moment in
+    let a = error_answer_of not_found_status in
     let S : Trace = (m, error_answer not_found_status) ∷ (m, began r) ∷ T in
-    let R : Trace = with_marks m (end_marks_by r.keep None) S in
+    let R : Trace = with_marks m (over ∷ last_answer_marks r.keep) S in
     let q : ProcessorParts = with_request stage.Over r (fresh_processor limits) in
     let k : LineParts = after_begin r.size r.go_on l in
-    let begun : Represents S k = error_mark not_found_status ((m, began r) ∷ T) k (began_stands r T l place (size_within limits T r front) s) in
-    let line : Represents R (after_end_of r.keep r.head.minor (error_answer_of not_found_status) k) =
-    subst (λ (c : Option CloseCause). Represents (with_marks m (end_marks_by r.keep c) S) (after_end_of r.keep r.head.minor (error_answer_of not_found_status) k)) none
-    (over_stands S k begun) in
-    let ends = over_ends m r.keep None S in
-    let stands : IsEndedRequest (request_folds R) q = record {
-      request = r;
-      calls = [];
-      was_served = false;
-      answer = error_answer_of not_found_status;
-      keeps = record { table = refl; can_async = refl; progress = refl };
-      same = ends.folds ∙ ap (λ (n : ℕ). record (request_folds S) { is_open = false; minor = n }) (head_minor r.head);
-    } in
+    let bounds = size_bounds limits T r front in
+    let begun : Represents S k = error_mark ((m, began r) ∷ T) k (began_stands r T l place bounds.1 built none bounds.0 s) in
+    let line : Represents R (after_end_of r.keep r.head.minor a k) =
+    over_stands S k r.head.minor r.keep a (begins_uncut r a built) refl refl refl none begun in
+    let ends = over_ends m r.keep S in
+    let stands : IsOfRequest (request_folds R) q =
+    subst (λ (f : RequestFolds). IsOfRequest f q) (sym ends.folds) (record {
+      same = refl;
+      alone = record {
+        minor = refl;
+        begun = refl;
+        taken = λ o. cc;
+        state = refl;
+        running = refl;
+        calls = λ o. cc;
+        answer = λ o. cc;
+        few = λ o. cc;
+        sending = λ o. cc;
+      };
+    }) in
+    let charts : ended_charts R ≡ ended_charts T ++ calls R ∷ [] = ends.charts ∙ sym (ap (λ (f : RequestFolds). ended_charts T ++ f.calls ∷ []) ends.folds) in
     record {
-      marks = began r ∷ error_answer not_found_status ∷ end_marks_by r.keep None;
+      marks = began r ∷ error_answer not_found_status ∷ over ∷ last_answer_marks r.keep;
       moved = refl;
-      follows = ended_serves limits m T R (after_end_of r.keep r.head.minor (error_answer_of not_found_status) k) q [] refl stands refl ends.charts (omega arith) line;
+      follows = ended_serves limits m T R (after_end_of r.keep r.head.minor a k) q refl stands charts (omega arith) line;
     }
 
 -- whatever is due, but for nothing
-due_taken : (limits : Limits) (T : Trace) (d : Due) (l : LineParts) → (d ≡ nothing → ⊥) → DueTakes (consumed T) (front_of limits T) (at_place (consumed T) d) → IsIdle (request_folds T) → cause_of T ≡ None → Represents T l → Taken limits T (at_place (consumed T) d) l (after_rest limits (line_with d l)) (processor_with d (fresh_processor limits))
-unfolding DueTakes at_place
-due_taken limits T nothing l some takes closed none s = absurd (some refl)
-due_taken limits T (refusal status to_head) l some takes closed none s = refusal_taken limits T status to_head l closed none s
-due_taken limits T (not_found r) l some takes closed none s = not_found_taken limits T (record r { place = consumed T }) l refl takes.0 none s
-due_taken limits T (request r) l some takes closed none s = request_taken limits T (record r { place = consumed T }) l refl takes.0 s
+due_taken : (limits : Limits) (T : Trace) (d : Due) (l : LineParts) → (d ≡ nothing → ⊥) → DueTakes (consumed T) (front_of limits T) (at_place (consumed T) d) → IsBuiltDue d → IsIdle (request_folds T) → cause_of T ≡ None → Represents T l → Taken limits T (at_place (consumed T) d) l (after_rest limits (line_with d l)) (processor_with d (fresh_processor limits))
+unfolding DueTakes IsBuiltDue at_place
+due_taken limits T nothing l some takes built closed none s = absurd (some refl)
+due_taken limits T (refusal status to_head) l some takes built closed none s = refusal_taken limits T status to_head l closed none s
+due_taken limits T (not_found r) l some takes built closed none s = not_found_taken limits T (record r { place = consumed T }) l refl takes.0 built none s
+due_taken limits T (request r) l some takes built closed none s = request_taken limits T (record r { place = consumed T }) l refl takes.0 built none s
 
 not_both : (v : Bool) → not v ≡ true → v ≡ true → ⊥
 not_both true e f = cc
@@ -236,13 +292,15 @@ open_takes limits rules T l taken new p q free due s begun held rests =
     let d = due_by_front limits rules 0 (begun_count T + 1) (front_of limits T) in
     let place = consumed T in
     let at_trace : due_at limits rules l ≡ d = ap (λ (k : LineParts). due_at limits rules k) s.line.same in
-    let due_trace : (may_begin T && not (is_awaited (front_of limits T))) ≡ true = ap (λ (k : LineParts). is_due limits k) (sym s.line.same) ∙ due in
+    let due_trace : (may_begin T && not (is_awaited (front_of limits T))) ≡ true =
+    ap (λ (v : Bool). may_begin_by (is_open T) (cause_of T) v (unsent T) && not (is_awaited (front_of limits T))) (has_whole T (plainly T s.line.sound))
+    ∙ ap (λ (k : LineParts). is_due limits k) (sym s.line.same) ∙ due in
     let tests = and_parts (may_begin T) (not (is_awaited (front_of limits T))) due_trace in
     let free_now = may_begin-parts T tests.0 in
-    let idle : IsIdle (request_folds T) = (subst (λ (k : ProcessorParts). StandsAt k.stage (request_folds T) k) free s.processor).0 in
+    let idle : IsIdle (request_folds T) = stands_idle T p (ap (λ (k : ProcessorParts). is_open_at k.stage) free) s.processor in
     let here : due_of limits rules T ≡ at_place place d = placed limits rules place (begun_count T + 1) (front_of limits T) in
     let takes = subst (DueTakes place (front_of limits T)) here (due_takes limits rules place (begun_count T + 1) (front_of limits T)) in
-    let w = due_taken limits T d l (λ e. not_both (is_awaited (front_of limits T)) tests.1 (not_nothing limits rules (begun_count T + 1) (front_of limits T) e)) takes idle free_now.1 s.line in
+    let w = due_taken limits T d l (λ e. not_both (is_awaited (front_of limits T)) tests.1 (not_nothing limits rules (begun_count T + 1) (front_of limits T) e)) takes (due_built limits rules 0 (begun_count T + 1) (front_of limits T)) idle free_now.1 s.line in
     let line : new ≡ after_rest limits (line_with d l) = rests ∙ ap (after_rest limits) (begun ∙ ap (λ (x : Due). line_with x l) at_trace) in
     let processor : q ≡ processor_with d (fresh_processor limits) = held ∙ ap (λ (x : Due). processor_with x p) at_trace ∙ ap (processor_with d) free in
     let same : q.limits ≡ limits = ap (λ (x : ProcessorParts). x.limits) processor ∙ same_limits d (fresh_processor limits) in

@@ -1,13 +1,14 @@
 -- The parts that follow each thing that happens to a request stand for the trace that follows it.
-use Rattle.std.proofs.Common.{◌≡◌, ◌≤◌, ℕ, Bool, true, false, not, ◌&&◌, cond, leb, List, [], ◌∷◌, ◌++◌, length, map, take, Option, Some, None, is_some, is_none, refl, sym, ap, ◌∙◌, subst, arith, length-take, ◌==◌, ◌||◌, if◌then◌else◌}
-use Rattle.std.proofs.lemmas.Bool.{and_left, eq-eqb}
+use Rattle.std.proofs.Common.{◌≡◌, ◌≤◌, ◌⊎◌, inl, inr, ℕ, ◌+◌, Bool, true, false, not, ◌&&◌, cond, leb, List, [], ◌∷◌, ◌++◌, length, map, take, Option, Some, None, is_some, is_none, refl, sym, ap, ◌∙◌, subst, arith, length-append, length-take, ◌==◌, ◌||◌, if◌then◌else◌}
+use Rattle.std.proofs.lemmas.Bool.{eq-eqb}
 use Rattle.std.proofs.lemmas.List.{append-nil, map-append, take-take}
 use Rattle.cy_event.specs.declared.limits.Limits.{Limits}
+use Rattle.cy_event.specs.declared.steps.Act.{Act}
 use Rattle.cy_event.specs.declared.steps.Act.TheVariants as act
 use Rattle.cy_event.specs.declared.steps.Call.{Call}
 use Rattle.cy_event.specs.declared.steps.Call.TheVariants as call
 use Rattle.cy_event.specs.declared.steps.CloseCause.{CloseCause}
-use Rattle.cy_event.specs.declared.steps.CloseCause.TheVariants.{LastAnswer}
+use Rattle.cy_event.specs.declared.steps.CloseCause.TheVariants.{InputEnd, LastAnswer}
 use Rattle.cy_event.specs.declared.steps.Event.{Event}
 use Rattle.cy_event.specs.declared.steps.Event.TheVariants as event
 use Rattle.cy_event.specs.declared.steps.Job.{Job}
@@ -19,44 +20,61 @@ use Rattle.cy_event.specs.declared.steps.State.{State}
 use Rattle.cy_event.specs.declared.steps.State.TheVariants as state
 use Rattle.cy_event.specs.Answers.{Answer, after_put, fresh_answer}
 use Rattle.cy_event.specs.Charts.{chart_of}
-use Rattle.cy_event.specs.Table.{next_state, row, is_end}
-use Rattle.cy_model.specs.Entries.{act_marks, act_reply, callback_reply, end_marks, is_full, open_act_marks, open_act_reply, rested_act, rested_callback, return_marks, write_takes, ended_count, event_mark, is_closed_to, job_marks, job_reply, owed_after, reply_to_event, rested_event, rested_turn}
-use Rattle.cy_model.specs.Folds.{answer_of, calls, minor_of_request, cause_of, ended_charts, has_ended, is_kept, is_open, is_served, part_of, running, state_of, unsent}
-use Rattle.cy_model.specs.Jobs.{job_by, job_in, next_job}
-use Rattle.cy_model.specs.Marks.{called, started, back, put, over, caused, Trace}
+use Rattle.cy_event.specs.Heads.{Head}
+use Rattle.cy_event.specs.RequestHeads.{RequestParts}
+use Rattle.cy_event.specs.Targets.{PathAndQuery, target_of}
+use Rattle.cy_head.specs.Answers.{just_read}
+use Rattle.cy_target.specs.Kept.{with_target}
+use Rattle.cy_event.specs.Table.{next_state, row, is_end, state_after}
+use Rattle.cy_model.specs.Entries.{act_marks, act_reply, callback_reply, is_full, open_act_marks, open_act_reply, rested_act, rested_callback, return_marks, write_takes, ended_count, event_marks, is_closed_to, job_marks, job_reply, owed_after, reply_to_event, rested_event, rested_turn, turn_reply, end_marks_where, sent_of}
+use Rattle.cy_event.specs.Answering.{Answering, Sending, has_closed, with_bytes}
+use Rattle.cy_model.specs.Endings.{cause_behind, cause_marks, end_marks, ends_closed}
+use Rattle.cy_model.specs.Folds.{calls, cause_of, ended_charts, is_open, is_served, part_of, request_of, running, state_of}
+use Rattle.cy_model.specs.Inputs.{room}
+use Rattle.cy_model.specs.Outputs.{answer_of, answering_of, end_by, put_by, sending_of, unsent}
+use Rattle.cy_model.specs.Jobs.{next_job, service_in}
+use Rattle.cy_model.specs.Marks.{Mark, TakenUp, called, came, sent, ended, started, back, put, over, caused, Trace}
+use Rattle.cy_model.specs.Replies.{Replied, got_in, plain, replied_in}
 use Rattle.cy_states.specs.Progress.{Progress, after_call, progress_of}
-use Rattle.cy_model.specs.Settling.{begin_bound, end_marks_by, front_of, is_awaited, may_begin, rested, with_marks}
-use Rattle.cy_model.proofs.Settlings.{rested-done, rested-keeps}
-use Rattle.cy_proc.specs.Lines.{LineParts, Represents}
+use Rattle.cy_model.specs.Settling.{last_answer_marks, rested, with_marks}
+use Rattle.cy_model.proofs.Built.{IsPlain, mark_plain, plain_end}
+use Rattle.cy_proc.proofs.Plain.{ends_now, finish_closes, plain_job, put_is, rested_is, rested_open}
+use Rattle.cy_proc.specs.Lines.{IsSound, LineParts, Represents, line_parts}
 use Rattle.cy_proc.specs.declared.processor.Stage.{Stage}
 use Rattle.cy_proc.specs.declared.processor.Stage.TheVariants as stage
 use Rattle.cy_proc.specs.LineChanges.{after_end_of, after_rest, after_told, at_moment, told_answer}
 use Rattle.cy_proc.specs.ProcessorAnswers.{Answers, Serves, ServesAfter, ended_items}
 use Rattle.cy_proc.specs.ProcessorChanges.{after_job, after_return, after_write, has_no_room, job_at, line_returned, owed_at, write_reply, write_room}
-use Rattle.cy_proc.specs.Processors.{IsEndedRequest, ProcessorParts, RequestFolds, folds_with, service_calls, StandsAt, StandsFor, is_open_at, over_charts, over_charts_at, request_folds}
-use Rattle.cy_proc.proofs.Lines.{marks_at, moved_stands, over_stands, quiet_by, rest_moment, rest_stands, told_from}
+use Rattle.cy_proc.specs.Processors.{IsIdle, IsOfRequest, IsServiceAlone, ProcessorParts, RequestFolds, StandsBy, StandsFor, calls_by, fresh_processor, is_open_at, over_charts, over_charts_at, processor_parts, request_folds, minor_by, service_by, stage_by, stage_of, table_by, waiting_content, keep_by, uncut}
+use Rattle.cy_proc.proofs.Built.{built_more}
+use Rattle.cy_proc.proofs.Lines.{marks_at, moved_stands, over_stands, plainly, rest_moment, rest_stands, told_from}
+
+-- ---- tables
+
+-- reading a target changes nothing of the head
+pub head_kept : (o : Option PathAndQuery) (parts : RequestParts) → (with_target o parts).head ≡ parts.head
+head_kept None parts = refl
+head_kept (Some named) parts = refl
 
 -- ---- resting
-
--- nothing is done by itself while a request is open
-pub rested_open : (limits : Limits) (t : ℕ) (T : Trace) → is_open T ≡ true → rested limits t T ≡ T
-rested_open limits t T o =
-    let may : may_begin T ≡ false = ap (λ (v : Bool). not v && (is_none (cause_of T) && leb (length (unsent T)) begin_bound)) o in
-    rested-done limits t T (quiet_by limits t T false (and_left (may_begin T) (has_ended T && is_awaited (front_of limits T)) may))
 
 -- resting changes nothing of the requests
 pub record SameRequests (T R : Trace) : Type 0 where
   pub folds : request_folds R ≡ request_folds T
   pub charts : ended_charts R ≡ ended_charts T
 
-pub rested_same : (limits : Limits) (t : ℕ) (T : Trace) → SameRequests T (rested limits t T)
-rested_same limits t T =
-    rested-keeps limits t (SameRequests T) (λ S may same. record { folds = same.folds; charts = same.charts }) T (record { folds = refl; charts = refl })
+pub rested_same : (limits : Limits) (t : ℕ) (T : Trace) → IsPlain T → SameRequests T (rested limits t T)
+rested_same limits t T p =
+    subst (SameRequests T) (sym (rested_is limits t T p))
+    (elim (ends_now limits T) as (λ v. SameRequests T (if v then (t, caused InputEnd) ∷ T else T)) [
+      | true ↦ record { folds = refl; charts = refl }
+      | false ↦ record { folds = refl; charts = refl }
+    ])
 
 -- ---- events
 
 -- an event changes nothing of the requests
-told_same : (t : ℕ) (e : Event) (b : List ℕ) (T : Trace) → SameRequests T ((t, event_mark T e b) ∷ T)
+told_same : (t : ℕ) (e : Event) (b : List ℕ) (T : Trace) → SameRequests T (with_marks t (event_marks T e b) T)
 told_same t event.In b T = record { folds = refl; charts = refl }
 told_same t event.End b T = record { folds = refl; charts = refl }
 told_same t (event.Took n) b T = record { folds = refl; charts = refl }
@@ -64,19 +82,24 @@ told_same t (event.Took n) b T = record { folds = refl; charts = refl }
 joined : (T R S : Trace) → SameRequests T R → SameRequests R S → SameRequests T S
 joined T R S first second = record { folds = second.folds ∙ first.folds; charts = second.charts ∙ first.charts }
 
-pub event_same : (limits : Limits) (t : ℕ) (e : Event) (b : List ℕ) (T : Trace) → SameRequests T (rested_event limits t T e b)
-event_same limits t e b T =
-    let R : Trace = (t, event_mark T e b) ∷ T in
+told_plain : (t : ℕ) (e : Event) (b : List ℕ) (T : Trace) → IsPlain T → IsPlain (with_marks t (event_marks T e b) T)
+told_plain t event.In b T p = mark_plain t T p (came (take (room T) b)) refl
+told_plain t event.End b T p = mark_plain t T p ended refl
+told_plain t (event.Took n) b T p = mark_plain t T p (sent (sent_of n T)) refl
+
+pub event_same : (limits : Limits) (t : ℕ) (e : Event) (b : List ℕ) (T : Trace) → IsPlain T → SameRequests T (rested_event limits t T e b)
+event_same limits t e b T p =
+    let R : Trace = with_marks t (event_marks T e b) T in
     elim (is_closed_to e T) as (λ v. SameRequests T (cond v T (rested limits t R))) [
       | true ↦ record { folds = refl; charts = refl }
-      | false ↦ joined T R (rested limits t R) (told_same t e b T) (rested_same limits t R)
+      | false ↦ joined T R (rested limits t R) (told_same t e b T) (rested_same limits t R (told_plain t e b T p))
     ]
 
 -- ---- standing
 
 -- what stands for a trace stands for each with the same requests
 pub stands_same : (T R : Trace) (p : ProcessorParts) → SameRequests T R → StandsFor T p → StandsFor R p
-stands_same T R p same s = subst (λ (f : RequestFolds). StandsAt p.stage f p) (sym same.folds) s
+stands_same T R p same s = subst (λ (f : RequestFolds). StandsBy f p) (sym same.folds) s
 
 -- no request has ended
 pub charts_same : (T R : Trace) (p : ProcessorParts) → SameRequests T R → over_charts p ≡ [] → ended_items R ≡ ended_items T ++ over_charts p
@@ -89,13 +112,118 @@ open_charts stage.Free progress o = refl
 open_charts stage.Owed progress o = refl
 open_charts stage.Serving progress o = refl
 open_charts stage.Over progress o = cc
+open_charts stage.Refused progress o = refl
+
+-- ---- what the stage says
+
+-- the stage of a request is open where it is
+stage_open : (o refused_now : Bool) (taken : Option TakenUp) (runs : Option Job) → is_open_at (stage_by o refused_now taken runs) ≡ o
+stage_open true refused_now taken None = refl
+stage_open true refused_now taken (Some j) = refl
+stage_open false true taken runs = refl
+stage_open false false None runs = refl
+stage_open false false (Some r) runs = refl
+
+-- and a service is owed where none runs
+stage_owed : (o refused_now : Bool) (taken : Option TakenUp) (runs : Option Job) → stage_by o refused_now taken runs ≡ stage.Owed → runs ≡ None
+stage_owed true refused_now taken None e = refl
+stage_owed true refused_now taken (Some j) e = cc
+stage_owed false true taken runs e = cc
+stage_owed false false None runs e = cc
+stage_owed false false (Some r) runs e = cc
+
+stage_serving : (o refused_now : Bool) (taken : Option TakenUp) (runs : Option Job) → stage_by o refused_now taken runs ≡ stage.Serving → is_some runs ≡ true
+stage_serving true refused_now taken None e = cc
+stage_serving true refused_now taken (Some j) e = refl
+stage_serving false true taken runs e = cc
+stage_serving false false None runs e = cc
+stage_serving false false (Some r) runs e = cc
+
+-- the parts of an open request are those of the last one
+pub stands_request : (T : Trace) (p : ProcessorParts) → is_open_at p.stage ≡ true → StandsFor T p → IsOfRequest (request_folds T) p
+stands_request T p o s =
+    elim s [
+      | inl w ↦ w
+      | inr free ↦ let closed : is_open_at p.stage ≡ false = ap (λ (q : ProcessorParts). is_open_at q.stage) free.fresh in cc
+    ]
 
 -- it is open in the trace, too
-pub stands_open : (st : Stage) (T : Trace) (p : ProcessorParts) → is_open_at st ≡ true → StandsAt st (request_folds T) p → is_open T ≡ true
-stands_open stage.Free T p o s = cc
-stands_open stage.Owed T p o s = ap (λ (f : RequestFolds). f.is_open) s.same
-stands_open stage.Serving T p o s = ap (λ (f : RequestFolds). f.is_open) s.same
-stands_open stage.Over T p o s = cc
+request_open : (f : RequestFolds) (p : ProcessorParts) → IsOfRequest f p → f.is_open ≡ is_open_at p.stage
+request_open f p s =
+    sym (stage_open f.is_open f.is_refused f.taken f.running) ∙ ap (λ (q : ProcessorParts). is_open_at q.stage) (sym s.same)
+
+pub stands_open : (T : Trace) (p : ProcessorParts) → StandsFor T p → is_open T ≡ is_open_at p.stage
+stands_open T p s =
+    elim s [
+      | inl w ↦ request_open (request_folds T) p w
+      | inr free ↦ free.idle.closed ∙ sym (ap (λ (q : ProcessorParts). is_open_at q.stage) free.fresh)
+    ]
+
+-- once it isn't, nothing runs
+pub stands_idle : (T : Trace) (p : ProcessorParts) → is_open_at p.stage ≡ false → StandsFor T p → IsIdle (request_folds T)
+stands_idle T p closed s =
+    elim s [
+      | inl w ↦
+          let here : is_open T ≡ false = request_open (request_folds T) p w ∙ closed in
+          record {
+            closed = here;
+            none_runs = w.alone.running ∙ ap (λ (v : Bool). service_by v (is_served T) (part_of T)) here;
+          }
+      | inr free ↦ free.idle
+    ]
+
+stage_free : (o refused_now : Bool) (taken : Option TakenUp) (runs : Option Job) → stage_by o refused_now taken runs ≡ stage.Free → (is_some taken || refused_now) ≡ true → ⊥
+stage_free true refused_now taken None e begun = cc
+stage_free true refused_now taken (Some j) e begun = cc
+stage_free false true taken runs e begun = cc
+stage_free false false None runs e begun = cc
+stage_free false false (Some r) runs e begun = cc
+
+-- free parts are those of no request
+pub stands_free : (T : Trace) (p : ProcessorParts) → p.stage ≡ stage.Free → StandsFor T p → p ≡ fresh_processor p.limits
+stands_free T p at s =
+    let f = request_folds T in
+    elim s [
+      | inl w ↦ absurd (stage_free f.is_open f.is_refused f.taken f.running (sym (ap (λ (q : ProcessorParts). q.stage) w.same) ∙ at) w.alone.begun)
+      | inr w ↦ w.fresh
+    ]
+
+-- ---- an open request
+
+-- whether its service was begun, by whether it runs
+served_by : (o served_now : Bool) (part : ℕ) → o ≡ true → served_now ≡ is_some (service_by o served_now part)
+served_by true true part e = refl
+served_by true false part e = refl
+served_by false served_now part e = cc
+
+-- what an open request says by whether its service was begun
+pub record IsOpenBy (f : RequestFolds) (served_now : Bool) : Type 0 where
+  pub is_open : f.is_open ≡ true
+  pub runs : f.running ≡ service_by true served_now f.part
+  pub served : f.is_served ≡ served_now
+  pub calls : f.calls ≡ calls_by served_now
+  pub state : f.state ≡ state_after (calls_by served_now)
+
+open_by : (f : RequestFolds) (v : Bool) → f.is_open ≡ true → IsServiceAlone f → is_some f.running ≡ v → IsOpenBy f v
+open_by f v o s at =
+    let served : f.is_served ≡ v = served_by f.is_open f.is_served f.part o ∙ sym (ap is_some s.running) ∙ at in
+    record {
+      is_open = o;
+      runs = s.running ∙ ap (λ (u : Bool). service_by u f.is_served f.part) o ∙ ap (λ (u : Bool). service_by true u f.part) served;
+      served = served;
+      calls = s.calls o ∙ ap calls_by served;
+      state = s.state ∙ ap state_after (s.calls o ∙ ap calls_by served);
+    }
+
+pub owed_request : (f : RequestFolds) (p : ProcessorParts) → p.stage ≡ stage.Owed → IsOfRequest f p → IsOpenBy f false
+owed_request f p at s =
+    let here : stage_of f ≡ stage.Owed = sym (ap (λ (q : ProcessorParts). q.stage) s.same) ∙ at in
+    open_by f false (request_open f p s ∙ ap is_open_at at) s.alone (ap is_some (stage_owed f.is_open f.is_refused f.taken f.running here))
+
+pub serving_request : (f : RequestFolds) (p : ProcessorParts) → p.stage ≡ stage.Serving → IsOfRequest f p → IsOpenBy f true
+serving_request f p at s =
+    let here : stage_of f ≡ stage.Serving = sym (ap (λ (q : ProcessorParts). q.stage) s.same) ∙ at in
+    open_by f true (request_open f p s ∙ ap is_open_at at) s.alone (stage_serving f.is_open f.is_refused f.taken f.running here)
 
 -- what follows without a change of the requests
 pub serves_same : (T R : Trace) (l : LineParts) (p : ProcessorParts) → is_open_at p.stage ≡ true → SameRequests T R → StandsFor T p → Represents R l → ServesAfter T R l p
@@ -106,120 +234,220 @@ serves_same T R l p o same s line = record {
 
 -- ---- the answers to events and turns
 
-pub event_answers : (limits : Limits) (at : ℕ) (e : Event) (b : List ℕ) (T : Trace) (old moved new : LineParts) (p : ProcessorParts) (r : Reply) → is_open_at p.stage ≡ true → Serves T old p → moved ≡ at_moment at old → r ≡ told_answer e b moved → new ≡ after_told limits e b moved → Answers T (reply_to_event T e b) (rested_event limits new.moment T e b) r new p
+pub event_answers : (limits : Limits) (at : ℕ) (e : Event) (b : List ℕ) (T : Trace) (old moved new : LineParts) (p : ProcessorParts) (r : Reply) → is_open_at p.stage ≡ true → Serves T old p → moved ≡ at_moment at old → r ≡ told_answer e b moved → new ≡ after_told limits e b moved → Answers T (plain (reply_to_event T e b)) (rested_event limits new.moment T e b) (plain r) new p
 event_answers limits at e b T old moved new p r o s later replied parts =
     let told = told_from limits at e b T old moved new r s.line later replied parts in
     record {
-      reply = told.reply;
-      after = serves_same T (rested_event limits new.moment T e b) new p o (event_same limits new.moment e b T) s.processor told.stands;
+      reply = ap plain told.reply;
+      after = serves_same T (rested_event limits new.moment T e b) new p o (event_same limits new.moment e b T (plainly T s.line.sound)) s.processor told.stands;
     }
 
--- a connection's line isn't touched by the marks of a callback that begins
-began_job : (j : Job) (T : Trace) (l : LineParts) → Represents T l → Represents ((l.moment, called call.Run None) ∷ (l.moment, started j) ∷ T) l
-began_job j T l s = record {
+-- a connection's line isn't touched by the marks of a service that begins
+began_service : (part : ℕ) (T : Trace) (l : LineParts) → Represents T l → Represents ((l.moment, called call.Run None) ∷ (l.moment, started (job.Service part)) ∷ T) l
+began_service part T l s = record {
   same = s.same;
-  sound = record { consumed_came = s.sound.consumed_came; took_written = s.sound.took_written; whole = s.sound.whole };
-  none_later = marks_at (started j ∷ called call.Run None ∷ []) T l s;
+  sound = record {
+    heads_came = s.sound.heads_came;
+    took_past = s.sound.took_past;
+    built = built_more l.moment (called call.Run None) ((l.moment, started (job.Service part)) ∷ T) refl (built_more l.moment (started (job.Service part)) T refl s.sound.built);
+    calm = s.sound.calm;
+  };
+  none_later = marks_at (started (job.Service part) ∷ called call.Run None ∷ []) T l s;
 }
 
+-- the service begins
+began_parts : (T : Trace) (t : ℕ) (p : ProcessorParts) → IsOpenBy (request_folds T) false → IsOfRequest (request_folds T) p → IsOfRequest (request_folds ((t, called call.Run None) ∷ (t, started (job.Service p.part)) ∷ T)) (after_job (Some (job.Service p.part)) p)
+began_parts T t p here s =
+    let f = request_folds T in
+    let g = request_folds ((t, called call.Run None) ∷ (t, started (job.Service p.part)) ∷ T) in
+    let part : p.part ≡ f.part = ap (λ (q : ProcessorParts). q.part) s.same in
+    let progress : after_call (progress_of f.calls) call.Run ≡ progress_of (f.calls ++ call.Run ∷ []) =
+    ap (λ (ks : List Call). after_call (progress_of ks) call.Run) here.calls
+    ∙ sym (ap (λ (ks : List Call). progress_of (ks ++ call.Run ∷ [])) here.calls) in
+    record {
+      same = ap (λ (q : ProcessorParts). record q { stage = stage.Serving; progress = after_call q.progress call.Run }) s.same
+          ∙ ap (λ (w : Progress). record (processor_parts p.limits f) { stage = stage.Serving; progress = w }) progress
+          ∙ sym (ap (λ (v : Bool). record (processor_parts p.limits g) { stage = stage_by v f.is_refused f.taken (Some (job.Service p.part)) }) here.is_open);
+      alone = record {
+        minor = s.alone.minor;
+        begun = s.alone.begun;
+        taken = s.alone.taken;
+        state = ap (λ (st : State). next_state st call.Run) here.state ∙ sym (ap (λ (ks : List Call). state_after (ks ++ call.Run ∷ [])) here.calls);
+        running = ap (λ (n : ℕ). Some (job.Service n)) part ∙ sym (ap (λ (v : Bool). service_by v true f.part) here.is_open);
+        calls = λ o. ap (λ (ks : List Call). ks ++ call.Run ∷ []) here.calls;
+        answer = s.alone.answer;
+        few = s.alone.few;
+        sending = s.alone.sending;
+      };
+    }
+
 -- the callback that is owed begins
-job_stands : (st : Stage) (T : Trace) (l : LineParts) (p : ProcessorParts) → p.stage ≡ st → is_open_at st ≡ true → StandsAt st (request_folds T) p → Represents T l → ServesAfter T (with_marks l.moment (job_marks (owed_at st p.part)) T) l (after_job (owed_at st p.part) p)
+job_stands : (st : Stage) (T : Trace) (l : LineParts) (p : ProcessorParts) → p.stage ≡ st → is_open_at st ≡ true → IsOfRequest (request_folds T) p → Represents T l → ServesAfter T (with_marks l.moment (job_marks (owed_at st p.part)) T) l (after_job (owed_at st p.part) p)
 job_stands stage.Free T l p at o s line = cc
 job_stands stage.Owed T l p at o s line = record {
   serves = record {
-    line = began_job (job.Service p.part) T l line;
-    processor = record {
-      request = s.request;
-      keeps = record {
-        table = s.keeps.table;
-        can_async = s.keeps.can_async;
-        progress = ap (λ (g : Progress). after_call g call.Run) s.keeps.progress;
-      };
-      same = ap (λ (f : RequestFolds). record f { calls = f.calls ++ call.Run ∷ []; state = next_state f.state call.Run; running = Some (job.Service p.part); is_served = true }) s.same;
-    };
+    line = began_service p.part T l line;
+    processor = inl (began_parts T l.moment p (owed_request (request_folds T) p at s) s);
   };
   charts = sym (append-nil (ended_items T));
 }
-job_stands stage.Serving T l p at o s line = serves_same T T l p (ap is_open_at at) (record { folds = refl; charts = refl }) (subst (λ (st : Stage). StandsAt st (request_folds T) p) (sym at) s) line
+job_stands stage.Serving T l p at o s line = serves_same T T l p (ap is_open_at at) (record { folds = refl; charts = refl }) (inl s) line
 job_stands stage.Over T l p at o s line = cc
+job_stands stage.Refused T l p at o s line = cc
 
 -- the callback that is owed is the one that the trace owes
-owed_is : (st : Stage) (T : Trace) (p : ProcessorParts) → StandsAt st (request_folds T) p → owed_at st p.part ≡ next_job T
-owed_is stage.Free T p s = sym (ap (λ (v : Bool). if v && is_none (running T) then job_in (state_of T) (is_served T) (part_of T) else None) s.0.closed)
-owed_is stage.Owed T p s = sym (ap (λ (f : RequestFolds). job_by f.is_open f.running f.state f.is_served f.part) s.same)
-owed_is stage.Serving T p s = sym (ap (λ (f : RequestFolds). job_by f.is_open f.running f.state f.is_served f.part) s.same)
-owed_is stage.Over T p s = sym (ap (λ (f : RequestFolds). job_by f.is_open f.running f.state f.is_served f.part) s.same)
+service_at : (o : Bool) (runs : Option Job) (was_served : Bool) (part : ℕ) → Option Job
+service_at o runs was_served part = if o && is_none runs then service_in state.Dispatched was_served part else None
+
+closed_owes : (T : Trace) (st : Stage) (part : ℕ) → is_open T ≡ false → owed_at st part ≡ None → owed_at st part ≡ service_at (is_open T) (running T) (is_served T) (part_of T)
+unfolding service_at
+closed_owes T st part closed none =
+    none ∙ sym (ap (λ (v : Bool). if v && is_none (running T) then service_in state.Dispatched (is_served T) (part_of T) else None) closed)
+
+owed_by : (st : Stage) (T : Trace) (p : ProcessorParts) → p.stage ≡ st → StandsFor T p → owed_at st p.part ≡ service_at (is_open T) (running T) (is_served T) (part_of T)
+unfolding service_at
+owed_by stage.Free T p at s = closed_owes T stage.Free p.part (stands_open T p s ∙ ap is_open_at at) refl
+owed_by stage.Owed T p at s =
+    let w = stands_request T p (ap is_open_at at) s in
+    let here = owed_request (request_folds T) p at w in
+    let o = here.is_open in
+    let runs = here.runs in
+    let was = here.served in
+    ap (λ (n : ℕ). Some (job.Service n)) (ap (λ (q : ProcessorParts). q.part) w.same)
+    ∙ sym (λ i. if o i && is_none (runs i) then service_in state.Dispatched (was i) (part_of T) else None)
+owed_by stage.Serving T p at s =
+    let w = stands_request T p (ap is_open_at at) s in
+    let here = serving_request (request_folds T) p at w in
+    let o = here.is_open in
+    let runs = here.runs in
+    sym (λ i. if o i && is_none (runs i) then service_in state.Dispatched (is_served T) (part_of T) else None)
+owed_by stage.Over T p at s = closed_owes T stage.Over p.part (stands_open T p s ∙ ap is_open_at at) refl
+owed_by stage.Refused T p at s = closed_owes T stage.Refused p.part (stands_open T p s ∙ ap is_open_at at) refl
+
+pub owed_is : (T : Trace) (p : ProcessorParts) → IsPlain T → StandsFor T p → job_at p ≡ next_job T
+unfolding service_at
+owed_is T p plain_now s = owed_by p.stage T p refl s ∙ sym (plain_job T plain_now)
 
 same_number : (n : ℕ) → (n == n) ≡ true
 same_number n = eq-eqb n n refl
 
-pub turn_answers : (limits : Limits) (at : ℕ) (T : Trace) (old new : LineParts) (p q : ProcessorParts) (r : Reply) → is_open_at p.stage ≡ true → Serves T old p → new ≡ at_moment at old → r ≡ job_reply (job_at p) → q ≡ after_job (job_at p) p → Answers T (job_reply (owed_after T (rested limits new.moment T))) (rested_turn limits new.moment T) r new q
+pub turn_answers : (limits : Limits) (at : ℕ) (T : Trace) (old new : LineParts) (p q : ProcessorParts) (r : Reply) → is_open_at p.stage ≡ true → Serves T old p → new ≡ at_moment at old → r ≡ job_reply (job_at p) → q ≡ after_job (job_at p) p → Answers T (turn_reply T (rested limits new.moment T)) (rested_turn limits new.moment T) (plain r) new q
 turn_answers limits at T old new p q r o s later replied parts =
     let m = new.moment in
-    let rests : rested limits m T ≡ T = rested_open limits m T (stands_open p.stage T p o s.processor) in
+    let rests : rested limits m T ≡ T = rested_open limits m T (plainly T s.line.sound) (stands_open T p s.processor ∙ o) in
     let owed : owed_after T (rested limits m T) ≡ job_at p =
     ap (owed_after T) rests
     ∙ ap (λ (v : Bool). if v then next_job T else None) (same_number (ended_count T))
-    ∙ sym (owed_is p.stage T p s.processor) in
+    ∙ sym (owed_is T p (plainly T s.line.sound) s.processor) in
     let trace : rested_turn limits m T ≡ with_marks m (job_marks (job_at p)) T =
     ap (λ (w : Option Job). with_marks m (job_marks w) (rested limits m T)) owed
     ∙ ap (with_marks m (job_marks (job_at p))) rests in
     let line = moved_stands at T old new s.line later in
-    let stands = job_stands p.stage T new p refl o s.processor line in
+    let stands = job_stands p.stage T new p refl o (stands_request T p o s.processor) line in
     record {
-      reply = replied ∙ sym (ap job_reply owed);
+      reply = ap plain (replied ∙ sym (ap job_reply owed));
       after = subst (λ (R : Trace). ServesAfter T R new q) (sym trace) (subst (λ (k : ProcessorParts). ServesAfter T (with_marks m (job_marks (job_at p)) T) new k) (sym parts) stands);
     }
 
 -- ---- acts
 
--- content was put
-put_mark : (b : List ℕ) (T : Trace) (l : LineParts) → Represents T l → Represents ((l.moment, put b) ∷ T) l
-put_mark b T l s = record {
-  same = s.same;
-  sound = record { consumed_came = s.sound.consumed_came; took_written = s.sound.took_written; whole = s.sound.whole };
-  none_later = marks_at (put b ∷ []) T l s;
-}
+-- content that fits waits, and nothing is written
+put_waits : (T : Trace) (t : ℕ) (b : List ℕ) (p : ProcessorParts) → IsSound T → is_open T ≡ true → IsOfRequest (request_folds T) p → length (answer_of T).content + length b ≤ 8192
+    → answering_of ((t, put b) ∷ T) ≡ record (answering_of T) { sending = with_bytes b (sending_of T) }
+put_waits T t b p sound o s fits =
+    let none = sound.calm o in
+    let waits : length (sending_of T).waiting ≡ length (answer_of T).content = ap (λ (x : Sending). length x.waiting) (s.alone.sending o) in
+    ap (λ (c : Option CloseCause). put_by c (answer_of T) t b (answering_of T)) none
+    ∙ put_is (answer_of T) t b (answering_of T) (omega (arith, waits, fits))
 
-put_stands : (limits : Limits) (b : List ℕ) (T : Trace) (l : LineParts) (p : ProcessorParts) → p.stage ≡ stage.Serving → StandsAt stage.Serving (request_folds T) p → Represents T l → ServesAfter T (rested limits l.moment ((l.moment, put b) ∷ T)) l (record p { content = p.content ++ b })
-put_stands limits b T l p at s line =
+put_mark : (b : List ℕ) (T : Trace) (l : LineParts) (p : ProcessorParts) → is_open T ≡ true → IsOfRequest (request_folds T) p → length (answer_of T).content + length b ≤ 8192 → Represents T l → Represents ((l.moment, put b) ∷ T) l
+put_mark b T l p o r fits s =
+    let waits = put_waits T l.moment b p s.sound o r fits in
+    record {
+      same = s.same ∙ ap (λ (u : List ℕ). record (line_parts l.moment T) { unsent = u }) (sym (ap (λ (a : Answering). a.output) waits));
+      sound = record { heads_came = s.sound.heads_came; took_past = s.sound.took_past; built = built_more l.moment (put b) T refl s.sound.built; calm = s.sound.calm };
+      none_later = marks_at (put b ∷ []) T l s;
+    }
+
+-- what is put waits behind what waits
+waits_more : (o : Bool) (a : Answer) (b : List ℕ) → o ≡ true → waiting_content o a ++ b ≡ waiting_content o (after_put b a)
+waits_more true a b e = refl
+waits_more false a b e = cc
+
+put_parts : (T : Trace) (t : ℕ) (b : List ℕ) (p : ProcessorParts) → IsSound T → is_open T ≡ true → length (answer_of T).content + length b ≤ 8192 → IsOfRequest (request_folds T) p → IsOfRequest (request_folds ((t, put b) ∷ T)) (record p { content = p.content ++ b })
+put_parts T t b p sound o fits s =
+    let f = request_folds T in
+    let R : Trace = (t, put b) ∷ T in
+    let waits = put_waits T t b p sound o s fits in
+    record {
+      same = ap (λ (q : ProcessorParts). record q { content = q.content ++ b }) s.same
+          ∙ ap (λ (x : List ℕ). record (processor_parts p.limits f) { content = x }) (waits_more (is_open T) (answer_of T) b o);
+      alone = record {
+        minor = s.alone.minor;
+        begun = s.alone.begun;
+        taken = s.alone.taken;
+        state = s.alone.state;
+        running = s.alone.running;
+        calls = s.alone.calls;
+        answer = λ e. ap (after_put b) (s.alone.answer e);
+        few = λ e. omega (arith, fits, length-append (answer_of T).content b);
+        sending = λ e. ap (λ (a : Answering). a.sending) waits ∙ ap (with_bytes b) (s.alone.sending o);
+      };
+    }
+
+put_stands : (limits : Limits) (b : List ℕ) (T : Trace) (l : LineParts) (p : ProcessorParts) → is_open_at p.stage ≡ true → is_open T ≡ true → length (answer_of T).content + length b ≤ 8192 → IsOfRequest (request_folds T) p → Represents T l → ServesAfter T (rested limits l.moment ((l.moment, put b) ∷ T)) l (record p { content = p.content ++ b })
+put_stands limits b T l p at o fits s line =
     let m = l.moment in
     let R : Trace = (m, put b) ∷ T in
     let q : ProcessorParts = record p { content = p.content ++ b } in
-    let folds : request_folds R ≡ folds_with s.request service_calls true (Some (job.Service p.part)) true (after_put q.content fresh_answer) p =
-    ap (λ (f : RequestFolds). record f { answer = after_put b f.answer }) s.same in
-    let rests : rested limits m R ≡ R = rested_open limits m R (ap (λ (f : RequestFolds). f.is_open) s.same) in
-    let stands : StandsAt stage.Serving (request_folds R) q = record {
-      request = s.request;
-      keeps = record { table = s.keeps.table; can_async = s.keeps.can_async; progress = s.keeps.progress };
-      same = folds;
-    } in
-    subst (λ (S : Trace). ServesAfter T S l q) (sym rests) (record {
-      serves = record { line = put_mark b T l line; processor = subst (λ (st : Stage). StandsAt st (request_folds R) q) (sym at) stands };
-      charts = sym (append-nil (ended_items T)) ∙ ap (λ (x : List (List ChartItem)). ended_items T ++ x) (sym (open_charts p.stage p.progress (ap is_open_at at)));
+    let now = mark_plain m T (plainly T line.sound) (put b) refl in
+    subst (λ (S : Trace). ServesAfter T S l q) (sym (rested_open limits m R now o)) (record {
+      serves = record { line = put_mark b T l p o s fits line; processor = inl (put_parts T m b p line.sound o fits s) };
+      charts = sym (append-nil (ended_items T)) ∙ ap (λ (x : List (List ChartItem)). ended_items T ++ x) (sym (open_charts p.stage p.progress at));
     })
 
 -- what is taken of the first n bytes is taken of all
 taken_first : (k n : ℕ) (b : List ℕ) → k ≤ n → take k (take n b) ≡ take k b
 taken_first k n b few = take-take k n b few
 
-pub write_answers : (limits : Limits) (at n : ℕ) (b given : List ℕ) (T : Trace) (old new : LineParts) (p q : ProcessorParts) (r : Reply) → p.stage ≡ stage.Serving → is_some new.cause ≡ false → n ≤ length b → Serves T old p → new ≡ at_moment at old → given ≡ take n b → r ≡ write_reply p (length given) → q ≡ after_write (length given) given p → Answers T (callback_reply T (act.Write n)) (rested_callback limits new.moment T (act.Write n) b) r new q
-write_answers limits at n b given T old new p q r at_stage no_cause within s later sliced replied parts =
+-- the answer of an open request is its content
+content_is : (f : RequestFolds) (p : ProcessorParts) → f.is_open ≡ true → IsOfRequest f p → f.answer ≡ after_put p.content fresh_answer
+content_is f p o s =
+    s.alone.answer o
+    ∙ ap (λ (x : List ℕ). after_put x fresh_answer) (sym (ap (λ (q : ProcessorParts). q.content) s.same ∙ ap (λ (v : Bool). waiting_content v f.answer) o))
+
+-- what a write takes fits
+room_fits : (a : Answer) (p : ProcessorParts) (n : ℕ) (b : List ℕ) → length a.content ≤ 8192 → a ≡ after_put p.content fresh_answer
+    → length a.content + length (take (write_room p n) b) ≤ 8192
+room_fits a p n b few is =
+    omega (arith, few, ap (λ (x : Answer). length x.content) is, length-take (write_room p n) b)
+
+-- a reply to a write hands over no bytes
+write_plain : (p : ProcessorParts) (n : ℕ) (into : List ℕ) → replied_in (write_reply p n) into ≡ plain (write_reply p n)
+write_plain p n into =
+    elim (has_no_room p n) as (λ v. replied_in (if v then reply.Again else reply.Taken (write_room p n)) into ≡ plain (if v then reply.Again else reply.Taken (write_room p n))) [
+      | true ↦ refl
+      | false ↦ refl
+    ]
+
+pub write_answers : (limits : Limits) (at n : ℕ) (b given into : List ℕ) (T : Trace) (old new : LineParts) (p q : ProcessorParts) (r : Reply) → p.stage ≡ stage.Serving → is_some new.cause ≡ false → n ≤ length b → Serves T old p → new ≡ at_moment at old → given ≡ take n b → r ≡ write_reply p (length given) → q ≡ after_write (length given) given p → Answers T (callback_reply limits T (act.Write n)) (rested_callback limits new.moment T (act.Write n) b) (replied_in r into) new q
+write_answers limits at n b given into T old new p q r at_stage no_cause within s later sliced replied parts =
     let m = new.moment in
     let line = moved_stands at T old new s.line later in
-    let stands : StandsAt stage.Serving (request_folds T) p = subst (λ (st : Stage). StandsAt st (request_folds T) p) at_stage s.processor in
-    let runs : running T ≡ Some (job.Service p.part) = ap (λ (f : RequestFolds). f.running) stands.same in
-    let answer : answer_of T ≡ after_put p.content fresh_answer = ap (λ (f : RequestFolds). f.answer) stands.same in
+    let stands = stands_request T p (ap is_open_at at_stage) s.processor in
+    let here = serving_request (request_folds T) p at_stage stands in
+    let runs : running T ≡ Some (job.Service (part_of T)) = here.runs in
+    let answer : answer_of T ≡ after_put p.content fresh_answer = content_is (request_folds T) p here.is_open stands in
     let cause : is_some (cause_of T) ≡ false = sym (ap (λ (l : LineParts). is_some l.cause) line.same) ∙ no_cause in
     let size : length given ≡ n = ap length sliced ∙ omega (arith, within, length-take n b) in
     let put_in : take (write_room p n) given ≡ take (write_room p n) b = ap (take (write_room p n)) sliced ∙ taken_first (write_room p n) n b (omega arith) in
-    let wanted : callback_reply T (act.Write n) ≡ write_reply p n =
-    ap (λ (o : Option Job). if is_some o then act_reply T (act.Write n) else reply.NotActive) runs
-    ∙ ap (λ (v : Bool). if v then reply.Closed else open_act_reply T (act.Write n)) cause
-    ∙ ap (λ (a : Answer). if is_full a n then reply.Again else reply.Taken (write_takes a n)) answer in
+    let wanted : callback_reply limits T (act.Write n) ≡ plain (write_reply p n) =
+    ap (λ (o : Option Job). if is_some o then act_reply limits T (act.Write n) else plain reply.NotActive) runs
+    ∙ ap (λ (v : Bool). if v then plain reply.Closed else open_act_reply limits T (act.Write n)) cause
+    ∙ ap (λ (a : Answer). plain (if is_full a n then reply.Again else reply.Taken (write_takes a n))) answer in
     let trace : rested_callback limits m T (act.Write n) b ≡ rested_act limits m T (if has_no_room p n then None else Some (put (take (write_room p n) b) ∷ [])) =
-    ap (λ (o : Option Job). if is_some o then rested_act limits m T (act_marks T (act.Write n) b) else T) runs
-    ∙ ap (λ (v : Bool). rested_act limits m T (if v then None else open_act_marks T (act.Write n) b)) cause
+    ap (λ (o : Option Job). if is_some o then rested_act limits m T (act_marks limits T (act.Write n) b) else T) runs
+    ∙ ap (λ (v : Bool). rested_act limits m T (if v then None else open_act_marks limits T (act.Write n) b)) cause
     ∙ ap (λ (a : Answer). rested_act limits m T (if is_full a n then None else Some (put (take (write_takes a n) b) ∷ []))) answer in
     let left : after_write (length given) given p ≡ (if has_no_room p n then p else record p { content = p.content ++ take (write_room p n) b }) =
     ap (λ (k : ℕ). after_write k given p) size
@@ -227,85 +455,180 @@ write_answers limits at n b given T old new p q r at_stage no_cause within s lat
     let follows : (v : Bool) → ServesAfter T (rested_act limits m T (if v then None else Some (put (take (write_room p n) b) ∷ []))) new (if v then p else record p { content = p.content ++ take (write_room p n) b }) = λ v.
     elim v as (λ u. ServesAfter T (rested_act limits m T (if u then None else Some (put (take (write_room p n) b) ∷ []))) new (if u then p else record p { content = p.content ++ take (write_room p n) b })) [
       | true ↦ serves_same T T new p (ap is_open_at at_stage) (record { folds = refl; charts = refl }) s.processor line
-      | false ↦ put_stands limits (take (write_room p n) b) T new p at_stage stands line
+      | false ↦ put_stands limits (take (write_room p n) b) T new p (ap is_open_at at_stage) here.is_open
+          (room_fits (answer_of T) p n b (stands.alone.few here.is_open) answer) stands line
     ] in
     record {
-      reply = replied ∙ ap (write_reply p) size ∙ sym wanted;
+      reply = ap (λ (x : Reply). replied_in x into) (replied ∙ ap (write_reply p) size) ∙ write_plain p n into ∙ sym wanted;
       after = subst (λ (R : Trace). ServesAfter T R new q) (sym trace) (subst (λ (k : ProcessorParts). ServesAfter T (rested_act limits m T (if has_no_room p n then None else Some (put (take (write_room p n) b) ∷ []))) new k) (sym (parts ∙ left)) (follows (has_no_room p n)));
     }
 
 -- ---- the end of a request
 
--- what the end of a request leaves of it
+-- what the end of a request leaves of it, but for what is sent of its answer
 pub record Ends (S R : Trace) : Type 0 where
-  pub folds : request_folds R ≡ record (request_folds S) { is_open = false }
+  pub folds : request_folds R ≡ record (request_folds S) { is_open = false; running = None; sending = sending_of R }
   pub charts : ended_charts R ≡ ended_charts S ++ calls S ∷ []
 
-pub over_ends : (t : ℕ) (keep : Bool) (cause : Option CloseCause) (S : Trace) → Ends S (with_marks t (end_marks_by keep cause) S)
-over_ends t keep cause S =
-    elim (keep || is_some cause) as (λ v. Ends S (with_marks t (over ∷ (if v then [] else caused LastAnswer ∷ [])) S)) [
-      | true ↦ record { folds = refl; charts = refl }
-      | false ↦ record { folds = refl; charts = refl }
-    ]
+pub over_ends : (t : ℕ) (keep : Bool) (S : Trace) → Ends S (with_marks t (over ∷ last_answer_marks keep) S)
+over_ends t true S = record { folds = refl; charts = refl }
+over_ends t false S = record { folds = refl; charts = refl }
 
 -- a request that has ended in a trace, and what follows of itself
-pub ended_serves : (limits : Limits) (m : ℕ) (T R : Trace) (l : LineParts) (p : ProcessorParts) (ks : List Call) → p.stage ≡ stage.Over → IsEndedRequest (request_folds R) p → p.progress ≡ progress_of ks → ended_charts R ≡ ended_charts T ++ ks ∷ [] → m ≤ l.moment → Represents R l → ServesAfter T (rested limits m R) (after_rest limits l) p
-ended_serves limits m T R l p ks at finished progress charts by line =
-    let same = rested_same limits m R in
+pub ended_serves : (limits : Limits) (m : ℕ) (T R : Trace) (l : LineParts) (p : ProcessorParts) → p.stage ≡ stage.Over → IsOfRequest (request_folds R) p → ended_charts R ≡ ended_charts T ++ calls R ∷ [] → m ≤ l.moment → Represents R l → ServesAfter T (rested limits m R) (after_rest limits l) p
+ended_serves limits m T R l p at finished charts by line =
+    let same = rested_same limits m R (plainly R line.sound) in
     record {
       serves = record {
         line = rest_stands limits m R l by line;
-        processor = stands_same R (rested limits m R) p same (subst (λ (st : Stage). StandsAt st (request_folds R) p) (sym at) finished);
+        processor = stands_same R (rested limits m R) p same (inl finished);
       };
       charts = ap (map chart_of) (same.charts ∙ charts)
-          ∙ map-append chart_of (ended_charts T) (ks ∷ [])
-          ∙ ap (λ (x : List (List ChartItem)). ended_items T ++ x) (ap (λ (g : Progress). g.chart ∷ []) (sym progress) ∙ sym (ap (λ (st : Stage). over_charts_at st p.progress) at));
+          ∙ map-append chart_of (ended_charts T) (calls R ∷ [])
+          ∙ ap (λ (x : List (List ChartItem)). ended_items T ++ x)
+          (ap (λ (q : ProcessorParts). q.progress.chart ∷ []) (sym finished.same) ∙ sym (ap (λ (st : Stage). over_charts_at st p.progress) at));
     }
 
 -- the service returns
 returned_line : (T : Trace) (l : LineParts) → Represents T l → Represents ((l.moment, called call.Return None) ∷ (l.moment, back) ∷ T) l
 returned_line T l s = record {
   same = s.same;
-  sound = record { consumed_came = s.sound.consumed_came; took_written = s.sound.took_written; whole = s.sound.whole };
+  sound = record {
+    heads_came = s.sound.heads_came;
+    took_past = s.sound.took_past;
+    built = built_more l.moment (called call.Return None) ((l.moment, back) ∷ T) refl (built_more l.moment back T refl s.sound.built);
+    calm = s.sound.calm;
+  };
   none_later = marks_at (back ∷ called call.Return None ∷ []) T l s;
 }
 
-pub return_answers : (limits : Limits) (at : ℕ) (b : List ℕ) (T : Trace) (old moved finished new : LineParts) (p q : ProcessorParts) → p.stage ≡ stage.Serving → Serves T old p → moved ≡ at_moment at old → finished ≡ line_returned p moved → q ≡ after_return p → new ≡ after_rest limits finished → Answers T (callback_reply T act.Return) (rested_callback limits new.moment T act.Return b) reply.Done new q
-return_answers limits at b T old moved finished new p q at_stage s later written parts rests =
+-- the version in the table of the last request
+table_minor : (taken : Option TakenUp) → (table_by taken).head.minor ≡ minor_by taken
+table_minor None = refl
+table_minor (Some r) = ap (λ (h : Head). h.minor) (head_kept (target_of r.head.method r.head.target) (just_read r.head))
+
+-- what a return leaves of the last request
+abbrev returned : Sending → RequestFolds → RequestFolds
+returned rest f = record f { calls = f.calls ++ call.Return ∷ []; state = next_state f.state call.Return; running = None; is_open = false; sending = rest }
+
+returned_parts : (rest : Sending) (f : RequestFolds) (p : ProcessorParts) → IsOpenBy f true → IsOfRequest f p → IsOfRequest (returned rest f) (after_return p)
+returned_parts rest f p here s =
+    let progress : after_call (progress_of f.calls) call.Return ≡ progress_of (f.calls ++ call.Return ∷ []) =
+    ap (λ (ks : List Call). after_call (progress_of ks) call.Return) here.calls
+    ∙ sym (ap (λ (ks : List Call). progress_of (ks ++ call.Return ∷ [])) here.calls) in
+    let parts = processor_parts p.limits (returned rest f) in
+    record {
+      same = ap after_return s.same
+          ∙ ap (λ (w : Progress). record parts { stage = stage.Over; progress = w }) progress
+          ∙ sym (ap (λ (st : Stage). record parts { stage = st }) (s.alone.taken here.is_open));
+      alone = record {
+        minor = s.alone.minor;
+        begun = s.alone.begun;
+        taken = λ e. cc;
+        state = ap (λ (st : State). next_state st call.Return) here.state ∙ sym (ap (λ (ks : List Call). state_after (ks ++ call.Return ∷ [])) here.calls);
+        running = refl;
+        calls = λ e. cc;
+        answer = λ e. cc;
+        few = λ e. cc;
+        sending = λ e. cc;
+      };
+    }
+
+-- what an answer says of the request is what its processor keeps
+line_of : (f : RequestFolds) (p : ProcessorParts) (l : LineParts) → f.is_open ≡ true → IsOfRequest f p → line_returned p l ≡ after_end_of f.keep f.minor f.answer l
+line_of f p l o s =
+    ap (λ (v : Bool). after_end_of v p.table.head.minor (after_put p.content fresh_answer) l) (ap (λ (q : ProcessorParts). q.keep) s.same)
+    ∙ ap (λ (n : ℕ). after_end_of f.keep n (after_put p.content fresh_answer) l)
+    (ap (λ (q : ProcessorParts). q.table.head.minor) s.same ∙ table_minor f.taken ∙ sym s.alone.minor)
+    ∙ ap (λ (a : Answer). after_end_of f.keep f.minor a l) (sym (content_is f p o s))
+
+-- its service returns: the marks of its end
+return_ends : (T : Trace) (p : ProcessorParts) → IsSound T → IsOpenBy (request_folds T) true → IsOfRequest (request_folds T) p → end_marks T ≡ over ∷ last_answer_marks (keep_by (request_of T))
+return_ends T p sound here s =
+    let o = here.is_open in
+    let none = sound.calm o in
+    let minor = minor_by (request_of T) in
+    let keep = keep_by (request_of T) in
+    let a = after_put (answer_of T).content fresh_answer in
+    let is : answer_of T ≡ a = s.alone.answer o in
+    let sent_so : sending_of T ≡ uncut minor keep a = s.alone.sending o ∙ ap (uncut minor keep) is in
+    let closes : ends_closed T ≡ not keep =
+    (λ i. has_closed (end_by (none i) false (is i) 0 (record { sending = sent_so i; output = unsent T })).sending)
+    ∙ finish_closes a 0 minor keep (unsent T) refl in
+    plain_end T (plainly T sound) none
+    ∙ ap (λ (v : Bool). over ∷ cause_marks (cause_behind false false v)) closes
+    ∙ by_keep keep
+  where
+    by_keep : (v : Bool) → over ∷ cause_marks (cause_behind false false (not v)) ≡ over ∷ last_answer_marks v
+    by_keep true = refl
+    by_keep false = refl
+
+pub return_answers : (limits : Limits) (at : ℕ) (b into : List ℕ) (T : Trace) (old moved finished new : LineParts) (p q : ProcessorParts) → p.stage ≡ stage.Serving → Serves T old p → moved ≡ at_moment at old → finished ≡ line_returned p moved → q ≡ after_return p → new ≡ after_rest limits finished → Answers T (callback_reply limits T act.Return) (rested_callback limits new.moment T act.Return b) (replied_in reply.Done into) new q
+return_answers limits at b into T old moved finished new p q at_stage s later written parts rests =
     let m = moved.moment in
+    let keep = keep_by (request_of T) in
     let S : Trace = (m, called call.Return None) ∷ (m, back) ∷ T in
-    let R : Trace = with_marks m (end_marks_by (is_kept S) (cause_of S)) S in
+    let R : Trace = with_marks m (over ∷ last_answer_marks keep) S in
     let line = moved_stands at T old moved s.line later in
-    let stands : StandsAt stage.Serving (request_folds T) p = subst (λ (st : Stage). StandsAt st (request_folds T) p) at_stage s.processor in
-    let runs : running T ≡ Some (job.Service p.part) = ap (λ (f : RequestFolds). f.running) stands.same in
-    let in_state : state_of T ≡ state.Dispatched = ap (λ (f : RequestFolds). f.state) stands.same in
-    let wanted : callback_reply T act.Return ≡ reply.Done = ap (λ (o : Option Job). if is_some o then reply.Done else reply.NotActive) runs in
+    let stands = stands_request T p (ap is_open_at at_stage) s.processor in
+    let here = serving_request (request_folds T) p at_stage stands in
+    let runs : running T ≡ Some (job.Service (part_of T)) = here.runs in
+    let in_state : state_of T ≡ state.Dispatched = (plainly T line.sound).here in
+    let wanted : callback_reply limits T act.Return ≡ plain reply.Done = ap (λ (o : Option Job). if is_some o then plain reply.Done else plain reply.NotActive) runs in
     let at_moment_of : new.moment ≡ m = ap (λ (k : LineParts). k.moment) rests ∙ rest_moment limits finished ∙ ap (λ (k : LineParts). k.moment) written in
     let trace : rested_callback limits new.moment T act.Return b ≡ rested limits m R =
     ap (λ (t : ℕ). rested_callback limits t T act.Return b) at_moment_of
     ∙ ap (λ (o : Option Job). if is_some o then rested limits m (with_marks m (return_marks T) T) else T) runs
-    ∙ ap (λ (st : State). rested limits m (with_marks m (end_marks (is_end (row st call.Return)) T) S)) in_state in
-    let ends = over_ends m (is_kept S) (cause_of S) S in
-    let text : line_returned p moved ≡ after_end_of (is_kept S) (minor_of_request S) (answer_of S) moved =
-    sym (ap (λ (f : RequestFolds). after_end_of f.keep f.minor f.answer moved) stands.same) in
+    ∙ ap (λ (st : State). rested limits m (with_marks m (end_marks_where (is_end (row st call.Return)) T) S)) in_state
+    ∙ ap (λ (ms : List Mark). rested limits m (with_marks m ms S)) (return_ends T p line.sound here stands) in
+    let ends = over_ends m keep S in
+    let a = after_put (answer_of T).content fresh_answer in
+    let is : answer_of T ≡ a = stands.alone.answer here.is_open in
+    let text : line_returned p moved ≡ after_end_of keep (minor_by (request_of T)) a moved =
+    line_of (request_folds T) p moved here.is_open stands ∙ ap (λ (x : Answer). after_end_of keep (minor_by (request_of T)) x moved) is in
     let over_line : Represents R finished =
-    subst (Represents R) (sym (written ∙ text)) (over_stands S moved (returned_line T moved line)) in
-    let over_request : IsEndedRequest (request_folds R) (after_return p) = record {
-      request = stands.request;
-      calls = call.Run ∷ call.Return ∷ [];
-      was_served = true;
-      answer = after_put p.content fresh_answer;
-      keeps = record {
-        table = stands.keeps.table;
-        can_async = stands.keeps.can_async;
-        progress = ap (λ (g : Progress). after_call g call.Return) stands.keeps.progress;
-      };
-      same = ends.folds ∙ ap (λ (f : RequestFolds). record f { calls = f.calls ++ call.Return ∷ []; state = next_state f.state call.Return; running = None; is_open = false }) stands.same;
-    } in
-    let charts : ended_charts R ≡ ended_charts T ++ (call.Run ∷ call.Return ∷ []) ∷ [] =
-    ends.charts ∙ ap (λ (f : RequestFolds). ended_charts T ++ (f.calls ++ call.Return ∷ []) ∷ []) stands.same in
-    let follows = ended_serves limits m T R finished (after_return p) (call.Run ∷ call.Return ∷ []) refl over_request over_request.keeps.progress charts (omega (arith, ap (λ (k : LineParts). k.moment) written)) over_line in
+    subst (Represents R) (sym (written ∙ text))
+    (over_stands S moved (minor_by (request_of T)) keep a (stands.alone.sending here.is_open ∙ ap (uncut (minor_by (request_of T)) keep) is) is refl refl
+    (line.sound.calm here.is_open) (returned_line T moved line)) in
+    let over_request : IsOfRequest (request_folds R) (after_return p) =
+    subst (λ (f : RequestFolds). IsOfRequest f (after_return p)) (sym ends.folds) (returned_parts (sending_of R) (request_folds T) p here stands) in
+    let charts : ended_charts R ≡ ended_charts T ++ calls R ∷ [] = ends.charts ∙ sym (ap (λ (f : RequestFolds). ended_charts T ++ f.calls ∷ []) ends.folds) in
+    let follows = ended_serves limits m T R finished (after_return p) refl over_request charts (omega (arith, ap (λ (k : LineParts). k.moment) written)) over_line in
     record {
       reply = sym wanted;
       after = subst (λ (X : Trace). ServesAfter T X new q) (sym trace) (subst (λ (k : LineParts). ServesAfter T (rested limits m R) k q) (sym rests) (subst (λ (k : ProcessorParts). ServesAfter T (rested limits m R) (after_rest limits finished) k) (sym parts) follows));
     }
+
+-- ---- a refused act
+
+-- nothing follows of it but the moment
+pub refused_act_answers : (limits : Limits) (at : ℕ) (T : Trace) (old new : LineParts) (p : ProcessorParts) (a : Act) (b : List ℕ) (r : Reply) (into : List ℕ) → is_open_at p.stage ≡ true → Serves T old p → new ≡ at_moment at old → callback_reply limits T a ≡ replied_in r into → rested_callback limits new.moment T a b ≡ T → Answers T (callback_reply limits T a) (rested_callback limits new.moment T a b) (replied_in r into) new p
+refused_act_answers limits at T old new p a b r into o s later wanted still = record {
+  reply = sym wanted;
+  after = subst (λ (R : Trace). ServesAfter T R new p) (sym still)
+      (serves_same T T new p o (record { folds = refl; charts = refl }) s.processor (moved_stands at T old new s.line later));
+}
+
+-- no callback runs
+pub idle_act : (limits : Limits) (at : ℕ) (T : Trace) (old new : LineParts) (p : ProcessorParts) (a : Act) (b into : List ℕ) → p.stage ≡ stage.Owed → Serves T old p → new ≡ at_moment at old → Answers T (callback_reply limits T a) (rested_callback limits new.moment T a b) (replied_in reply.NotActive into) new p
+idle_act limits at T old new p a b into at_stage s later =
+    let stands = stands_request T p (ap is_open_at at_stage) s.processor in
+    let here = owed_request (request_folds T) p at_stage stands in
+    let runs : running T ≡ None = here.runs in
+    refused_act_answers limits at T old new p a b reply.NotActive into (ap is_open_at at_stage) s later
+    (ap (λ (o : Option Job). if is_some o then act_reply limits T a else plain reply.NotActive) runs)
+    (ap (λ (o : Option Job). if is_some o then rested_act limits new.moment T (act_marks limits T a b) else T) runs)
+
+-- there is a cause to close
+pub closed_write : (limits : Limits) (at n : ℕ) (T : Trace) (old new : LineParts) (p : ProcessorParts) (b into : List ℕ) → p.stage ≡ stage.Serving → is_some new.cause ≡ true → Serves T old p → new ≡ at_moment at old → Answers T (callback_reply limits T (act.Write n)) (rested_callback limits new.moment T (act.Write n) b) (replied_in reply.Closed into) new p
+closed_write limits at n T old new p b into at_stage has_cause s later =
+    let stands = stands_request T p (ap is_open_at at_stage) s.processor in
+    let here = serving_request (request_folds T) p at_stage stands in
+    let runs : running T ≡ Some (job.Service (part_of T)) = here.runs in
+    let line = moved_stands at T old new s.line later in
+    let cause : is_some (cause_of T) ≡ true = sym (ap (λ (l : LineParts). is_some l.cause) line.same) ∙ has_cause in
+    refused_act_answers limits at T old new p (act.Write n) b reply.Closed into (ap is_open_at at_stage) s later
+    (ap (λ (o : Option Job). if is_some o then act_reply limits T (act.Write n) else plain reply.NotActive) runs
+    ∙ ap (λ (v : Bool). if v then plain reply.Closed else open_act_reply limits T (act.Write n)) cause)
+    (ap (λ (o : Option Job). if is_some o then rested_act limits new.moment T (act_marks limits T (act.Write n) b) else T) runs
+    ∙ ap (λ (v : Bool). rested_act limits new.moment T (if v then None else open_act_marks limits T (act.Write n) b)) cause)

@@ -1,5 +1,5 @@
 -- What each thing that happens does to the parts of a line.
-use Rattle.std.specs.Prelude.{ℕ, ◌+◌, max, Bool, true, false, ◌&&◌, not, List, ◌++◌, length, take, drop, Option, Some, None, is_some, if◌then◌else◌}
+use Rattle.std.specs.Prelude.{ℕ, ◌+◌, max, Bool, true, false, ◌&&◌, not, List, ◌++◌, length, take, drop, Option, Some, None, is_none, is_some, if◌then◌else◌}
 use Rattle.cy_event.specs.declared.limits.Limits.{Limits}
 use Rattle.cy_event.specs.declared.steps.CloseCause.{CloseCause}
 use Rattle.cy_event.specs.declared.steps.CloseCause.TheVariants.{InputEnd, LastAnswer, Refused}
@@ -7,10 +7,12 @@ use Rattle.cy_event.specs.declared.steps.Event.{Event}
 use Rattle.cy_event.specs.declared.steps.Event.TheVariants as event
 use Rattle.cy_event.specs.declared.steps.Reply.{Reply}
 use Rattle.cy_event.specs.declared.steps.Reply.TheVariants as reply
-use Rattle.cy_event.specs.Answers.{Answer, answer_text, refusal_text}
+use Rattle.cy_event.specs.Answers.{Answer, Connection, answer_text, refusal_text}
 use Rattle.cy_event.specs.Heads.{Front, head_of}
-use Rattle.cy_model.specs.Entries.{is_closed_by, room_by, sent_by}
-use Rattle.cy_model.specs.Folds.{begin_text, connection_by, is_gone_by}
+use Rattle.cy_event.specs.AnswerModes.{connection_of, counted}
+use Rattle.cy_model.specs.Entries.{is_closed_by, sent_by}
+use Rattle.cy_model.specs.Inputs.{room_by}
+use Rattle.cy_model.specs.Outputs.{begin_text, is_gone_by}
 use Rattle.cy_model.specs.Settling.{is_awaited, may_begin_by}
 use Rattle.cy_proc.specs.Lines.{LineParts}
 use Rattle.cy_proc.specs.declared.line.Standing.{Standing}
@@ -50,9 +52,9 @@ abbrev pub front_at : Limits → LineParts → Front
 front_at limits l = head_of limits.max_head limits.max_fields l.unread
 
 abbrev pub may_begin_line : LineParts → Bool
-may_begin_line l = may_begin_by l.is_open l.cause l.unsent
+may_begin_line l = may_begin_by l.is_open l.cause true l.unsent
 
--- no further head can come
+-- no further head can come; the last request had no body
 abbrev pub ends_at_rest : Limits → LineParts → Bool
 ends_at_rest limits l = may_begin_line l && (l.has_ended && is_awaited (front_at limits l))
 
@@ -110,6 +112,11 @@ abbrev pub cause_after : Bool → Option CloseCause → Option CloseCause
 cause_after keep (Some k) = Some k
 cause_after true None = None
 cause_after false None = Some LastAnswer
+
+-- an answer says that its connection closes, stays open where that isn't the rule of the version, or nothing
+-- (RFC 9112, section 9.3)
+abbrev pub connection_by : Bool → Option CloseCause → ℕ → Connection
+connection_by keep cause minor = connection_of (record { minor = minor; is_head = false; keep = keep && is_none cause }) counted
 
 -- the request ends with this answer
 abbrev pub after_end_of : Bool → ℕ → Answer → LineParts → LineParts

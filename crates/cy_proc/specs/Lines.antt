@@ -1,10 +1,13 @@
 -- What is kept of a connection outside of its request, and which traces that stands for.
-use Rattle.std.specs.Prelude.{◌≡◌, ◌≤◌, ℕ, ◌+◌, Bool, false, List, All, Option, length}
+use Rattle.std.specs.Prelude.{◌≡◌, ◌≤◌, ℕ, ◌+◌, Bool, true, List, All, Option, None, length}
 use Rattle.cy_event.specs.declared.steps.CloseCause.{CloseCause}
 use Rattle.cy_event.specs.Answers.{continue_text}
-use Rattle.cy_model.specs.Folds.{begun_count, bytes_of, cause_of, consumed, has_ended, is_broken, is_open, output, took, unread, unsent}
+use Rattle.cy_model.specs.Folds.{begun_count, bytes_of, cause_of, has_ended, is_open, last_taken}
+use Rattle.cy_model.specs.Inputs.{head_end, unread}
+use Rattle.cy_model.specs.Outputs.{took, unsent, writing}
 use Rattle.cy_model.specs.Marks.{Mark, Trace}
 use Rattle.cy_model.specs.Settling.{begin_bound}
+use Rattle.cy_model.specs.Unbuilt.{NothingUnbuilt}
 
 pub record LineParts : Type 0 where
   -- the bytes that wait, how many came in all, and how many requests were begun
@@ -37,11 +40,13 @@ line_parts moment T = record {
 abbrev pub open_bound : ℕ
 open_bound = begin_bound + length continue_text
 
--- no request took more bytes than came and the socket no more than was written; nothing breaks so far
+-- the heads stand in the bytes that came, the socket took what no longer waits, and no mark stands that isn't built; so
+-- an open request has no cause to close
 pub record IsSound (T : Trace) : Type 0 where
-  pub consumed_came : consumed T ≤ length (bytes_of T)
-  pub took_written : took T ≤ length (output T)
-  pub whole : is_broken T ≡ false
+  pub heads_came : head_end (last_taken T) ≤ length (bytes_of T)
+  pub took_past : took T ≡ length (writing T).past
+  pub built : NothingUnbuilt T
+  pub calm : is_open T ≡ true → cause_of T ≡ None
 
 -- no mark is later than this moment
 abbrev pub NoneLater : ℕ → Trace → Type 0

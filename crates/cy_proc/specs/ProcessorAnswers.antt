@@ -6,9 +6,10 @@ use Rattle.cy_event.specs.declared.steps.Reply.{Reply}
 use Rattle.cy_event.specs.declared.table.ChartItem.{ChartItem}
 use Rattle.cy_event.specs.Charts.{chart_of}
 use Rattle.cy_map.specs.declared.rule.Rule.{Rule}
-use Rattle.cy_model.specs.Entries.{callback_reply, job_reply, owed_after, reply_to_event, rested_callback, rested_event, rested_turn}
+use Rattle.cy_model.specs.Entries.{callback_reply, reply_to_event, rested_callback, rested_event, rested_turn, turn_reply}
 use Rattle.cy_model.specs.Folds.{ended_charts}
 use Rattle.cy_model.specs.Marks.{Trace}
+use Rattle.cy_model.specs.Replies.{Replied, plain, replied_in}
 use Rattle.cy_model.specs.Settling.{rested, taken_up}
 use Rattle.cy_proc.specs.Lines.{LineParts, Represents}
 use Rattle.cy_proc.specs.Processors.{ProcessorParts, StandsFor, over_charts}
@@ -28,7 +29,7 @@ pub record ServesAfter (T R : Trace) (l : LineParts) (p : ProcessorParts) : Type
   pub charts : ended_items R ≡ ended_items T ++ over_charts p
 
 -- the reply is the wanted one, and line and processor stand for the trace that follows
-pub record Answers (T : Trace) (wanted : Reply) (R : Trace) (r : Reply) (l : LineParts) (p : ProcessorParts) : Type 0 where
+pub record Answers (T : Trace) (wanted : Replied) (R : Trace) (r : Replied) (l : LineParts) (p : ProcessorParts) : Type 0 where
   pub reply : r ≡ wanted
   pub after : ServesAfter T R l p
 
@@ -46,15 +47,17 @@ TakesUpEach rules line processor l p = (T : Trace) → Serves T line processor �
 -- the socket told something
 abbrev pub AnswersEachEvent : Event → List ℕ → LineParts → ProcessorParts → Reply → LineParts → ProcessorParts → Type 0
 AnswersEachEvent e b line processor r l p =
-    (T : Trace) → Serves T line processor → Answers T (reply_to_event T e b) (rested_event p.limits l.moment T e b) r l p
+    (T : Trace) → Serves T line processor
+    → Answers T (plain (reply_to_event T e b)) (rested_event p.limits l.moment T e b) (plain r) l p
 
 -- a worker turned to the request
 abbrev pub AnswersEachTurn : LineParts → ProcessorParts → Reply → LineParts → ProcessorParts → Type 0
 AnswersEachTurn line processor r l p =
     (T : Trace) → Serves T line processor
-    → Answers T (job_reply (owed_after T (rested p.limits l.moment T))) (rested_turn p.limits l.moment T) r l p
+    → Answers T (turn_reply T (rested p.limits l.moment T)) (rested_turn p.limits l.moment T) (plain r) l p
 
--- the callback acted
-abbrev pub AnswersEachAct : Act → List ℕ → LineParts → ProcessorParts → Reply → LineParts → ProcessorParts → Type 0
-AnswersEachAct a b line processor r l p =
-    (T : Trace) → Serves T line processor → Answers T (callback_reply T a) (rested_callback p.limits l.moment T a b) r l p
+-- the callback acted, and was answered this with these bytes in its buffer
+abbrev pub AnswersEachAct : Act → List ℕ → LineParts → ProcessorParts → Reply → List ℕ → LineParts → ProcessorParts → Type 0
+AnswersEachAct a b line processor r into l p =
+    (T : Trace) → Serves T line processor
+    → Answers T (callback_reply p.limits T a) (rested_callback p.limits l.moment T a b) (replied_in r into) l p

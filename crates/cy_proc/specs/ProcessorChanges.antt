@@ -1,5 +1,5 @@
 -- What each thing that happens does to the parts of a processor and of the line of its connection.
-use Rattle.std.specs.Prelude.{ℕ, ◌+◌, Bool, ◌&&◌, not, List, ◌++◌, length, take, Option, Some, None, if◌then◌else◌, ◌==◌}
+use Rattle.std.specs.Prelude.{ℕ, ◌+◌, Bool, ◌&&◌, not, List, [], ◌++◌, length, take, Option, Some, None, if◌then◌else◌, ◌==◌}
 use Rattle.cy_event.specs.declared.limits.Limits.{Limits}
 use Rattle.cy_event.specs.declared.steps.Call.TheVariants as call
 use Rattle.cy_event.specs.declared.steps.Job.{Job}
@@ -49,7 +49,7 @@ with_request at_stage r p = record p {
 -- the same, by what is due
 abbrev pub processor_with : Due → ProcessorParts → ProcessorParts
 processor_with nothing p = p
-processor_with (refusal status to_head) p = p
+processor_with (refusal status to_head) p = record p { stage = stage.Refused }
 processor_with (not_found r) p = with_request stage.Over r p
 processor_with (request r) p = with_request stage.Owed r p
 
@@ -88,9 +88,9 @@ after_write n b p = if has_no_room p n then p else record p { content = p.conten
 abbrev pub answer_at : ProcessorParts → Answer
 answer_at p = after_put p.content fresh_answer
 
--- the service returns, and the request is over
+-- the service returns, and the request is over; nothing waits any more
 abbrev pub after_return : ProcessorParts → ProcessorParts
-after_return p = record p { stage = stage.Over; progress = after_call p.progress call.Return }
+after_return p = record p { stage = stage.Over; progress = after_call p.progress call.Return; content = [] }
 
 -- the line after it
 abbrev pub line_returned : ProcessorParts → LineParts → LineParts

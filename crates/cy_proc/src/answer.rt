@@ -1,7 +1,7 @@
 //! The bytes of an answer, written to the out ring.
 ghost use Rattle.std.specs.Prelude.{◌≡◌, ◌+◌, ◌≤◌, ◌++◌, length};
 ghost use Rattle.cy_event.specs.Answers.{after_put, answer_text, connection_line, continue_text, fresh_answer};
-ghost use Rattle.cy_model.specs.Folds.{begin_text};
+ghost use Rattle.cy_model.specs.Outputs.{begin_text};
 ghost use Rattle.cy_event.specs.declared.limits.TheConstants.{GREATEST_MOMENT};
 ghost use Rattle.cy_rings.specs.declared.kit.TheConstants.{OUT_CAPACITY};
 ghost use Rattle.cy_proc.specs.AnswerBytes.{error_bytes, head_bytes, said};

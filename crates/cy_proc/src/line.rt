@@ -7,11 +7,10 @@ ghost use Rattle.cy_proc.specs.LineAnswers.{AnswersEachEvent, RestsEach};
 ghost use Rattle.cy_event.specs.Answers.{after_put, content_buffer, error_answer, fresh_answer};
 ghost use Rattle.cy_event.specs.declared.head.TheConstants.{FIELD_ROOM, HEAD_ROOM};
 ghost use Rattle.cy_head.specs.Answers.{answer_to, filled_by};
-ghost use Rattle.cy_model.specs.Folds.{connection_by};
 ghost use Rattle.cy_proc.specs.AnswerBytes.{said};
 ghost use Rattle.cy_model.specs.Marks.{opened};
 ghost use Rattle.cy_proc.specs.Lines.{Represents};
-ghost use Rattle.cy_proc.specs.LineChanges.{after_begin, after_end_of, after_event, after_refusal, cause_after, after_rest, after_told, at_moment, ends_at_rest, event_answer, front_at, is_closed_line, is_due, is_gone_line, may_begin_line, room_of, sent_from, standing_of, told_answer};
+ghost use Rattle.cy_proc.specs.LineChanges.{after_begin, after_end_of, after_event, after_refusal, cause_after, connection_by, after_rest, after_told, at_moment, ends_at_rest, event_answer, front_at, is_closed_line, is_due, is_gone_line, may_begin_line, room_of, sent_from, standing_of, told_answer};
 
 use crate::answer::{Connection, put_answer, put_begin, put_error};
 use cy_event::{CloseCause, Event, Limits, Reply, RequestHead};
@@ -47,7 +46,7 @@ pub struct Line {
 
 impl Model for Line {
     ghost use Rattle.std.specs.Prelude.{◌≡◌, ◌≤◌, ◌+◌, length, true};
-    ghost use Rattle.cy_model.specs.Entries.{input_total};
+    ghost use Rattle.cy_model.specs.Inputs.{input_total};
     ghost use Rattle.cy_event.specs.declared.limits.TheConstants.{GREATEST_MOMENT};
     ghost use Rattle.cy_proc.specs.Lines.{LineParts, open_bound};
 
@@ -362,10 +361,10 @@ impl Line {
     {
         if !keep || self.cause.is_some() {
             Connection::Close
-        } else if minor == 0 {
-            Connection::KeepAlive
-        } else {
+        } else if minor == 1 {
             Connection::Silent
+        } else {
+            Connection::KeepAlive
         }
     }
 }

@@ -8,10 +8,10 @@ ghost use Rattle.cy_model.specs.Jobs.{next_job};
 ghost use Rattle.cy_model.specs.Marks.{Trace};
 ghost use Rattle.cy_model.specs.Settling.{begin_bound};
 ghost use Rattle.cy_model.specs.Steps.{IsWithinBytes};
-ghost use Rattle.cy_proc.specs.LineChanges.{is_due, work_of};
-ghost use Rattle.cy_proc.specs.ProcessorAnswers.{AnswersEachAct, AnswersEachEvent, AnswersEachTurn, TakesUpEach};
+ghost use Rattle.cy_proc.specs.LineChanges.{after_refusal, is_due, work_of};
+ghost use Rattle.cy_proc.specs.ProcessorAnswers.{AnswersEachAct, AnswersEachEvent, AnswersEachTurn, Serves, TakesUpEach};
 ghost use Rattle.cy_proc.specs.ProcessorChanges.{after_job, after_return, after_write, due_at, due_of_head, job_at, line_returned, line_with, processor_with, write_reply};
-ghost use Rattle.cy_proc.specs.Processors.{IsIdle, StandsFor, fresh_processor, is_open_at, is_over_at, request_folds};
+ghost use Rattle.cy_proc.specs.Processors.{IsIdle, StandsFor, fresh_processor, has_request_at, is_open_at, is_over_at, request_folds};
 
 use crate::line::Line;
 use crate::verdict::{Judgement, judge};
@@ -35,6 +35,8 @@ pub enum Stage {
     Serving,
     /// It has ended.
     Over,
+    /// There is none: the head was refused.
+    Refused,
 }
 
 /// Bytes of content that wait for the head at most.
@@ -163,7 +165,7 @@ impl Processor {
         requires line { line.old.is_open ≡ true }
         requires moment { at ≤ GREATEST_MOMENT }
         requires within { IsWithinBytes act.now bytes.now }
-        ensures answers { AnswersEachAct act.now bytes.now line.old self.old result line.new self.new }
+        ensures answers { AnswersEachAct act.now bytes.now line.old self.old result _into.new line.new self.new }
         ensures limits { self.new.limits ≡ self.old.limits }
         ensures moment { line.new.moment ≡ max line.old.moment at }
         ensures into { _into.new ≡ _into.old }
@@ -185,17 +187,24 @@ impl Processor {
 
     /// The callback that is owed, where none runs.
     pub fn next_job(&self, _line: &Line) -> Option<Job>
-        ensures owed { (T : Trace) → StandsFor T self.now → result ≡ next_job T }
+        ensures owed { (T : Trace) → Serves T _line.now self.now → result ≡ next_job T }
         ensures job { result ≡ job_at self.now }
     {
         self.owed_job()
     }
 
-    /// Whether the request has ended.
+    /// Whether the head that was opened is done with: its request has ended, or it was refused. It is to be cleared.
     pub fn is_over(&self) -> bool
         ensures { result ≡ is_over_at self.now.stage }
     {
-        self.stage == Stage::Over
+        matches!(self.stage, Stage::Over | Stage::Refused)
+    }
+
+    /// Whether a request was taken up that isn't cleared yet: it is open, or it is over. A refused head is none.
+    pub fn has_request(&self) -> bool
+        ensures { result ≡ has_request_at self.now.stage }
+    {
+        matches!(self.stage, Stage::Owed | Stage::Serving | Stage::Over)
     }
 
     /// Whether a request is open.
@@ -205,7 +214,7 @@ impl Processor {
         matches!(self.stage, Stage::Owed | Stage::Serving)
     }
 
-    /// How many items the chart of the request has.
+    /// How many items the chart of the request has: 0 where there is none.
     pub fn chart_len(&self) -> usize
         ensures { result ≡ length self.now.progress.chart }
     {
@@ -246,7 +255,7 @@ impl Processor {
     {
         match line.read_head(&self.limits, &mut self.table) {
             Front::Wait => {}
-            Front::Bad => line.refuse(BAD_REQUEST, false),
+            Front::Bad => self.refuse(line, BAD_REQUEST, false),
             Front::Head { length } => self.take_up_head(line, length, rules),
         }
     }
@@ -263,8 +272,8 @@ impl Processor {
     {
         match judge(&mut self.table, rules) {
             Judgement::TurnedAway { status } => {
-                line.refuse(status, self.table.method() == b"HEAD".as_slice());
-                self.table.clear();
+                let to_head = self.table.method() == b"HEAD".as_slice();
+                self.refuse(line, status, to_head);
             }
             Judgement::Unserved { keep } => {
                 self.keep = line.next_persists(keep, &self.limits);
@@ -280,6 +289,19 @@ impl Processor {
                 self.stage = Stage::Owed;
             }
         }
+    }
+
+    /// Refuses the head that is due, of which nothing is kept.
+    fn refuse(&mut self, line: &mut Line, status: u16, to_head: bool)
+        requires closed { line.old.is_open ≡ false }
+        requires room { length line.old.unsent ≤ begin_bound }
+        requires free { self.old ≡ record (fresh_processor self.old.limits) { table = self.old.table } }
+        ensures line { line.new ≡ after_refusal status to_head line.old }
+        ensures request { self.new ≡ record (fresh_processor self.old.limits) { stage = Stage.Refused } }
+    {
+        line.refuse(status, to_head);
+        self.table.clear();
+        self.stage = Stage::Refused;
     }
 
     fn owed_job(&self) -> Option<Job>
@@ -327,6 +349,7 @@ impl Processor {
     {
         let _done = self.machine.call(Call::Return);
         line.end_with_content(&self.content, self.keep, self.table.minor());
+        self.content.clear();
         self.stage = Stage::Over;
     }
 }

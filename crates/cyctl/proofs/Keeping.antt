@@ -1,5 +1,5 @@
 -- A connection with all that it wrote goes on standing for its entries.
-use Rattle.std.proofs.Common.{◌≡◌, ℕ, Bool, true, false, ◌-◌, List, [], ◌∷◌, ◌++◌, length, drop, map, refl, sym, ap, ◌∙◌, subst, arith, length-drop, if◌then◌else◌}
+use Rattle.std.proofs.Common.{◌≡◌, ℕ, Bool, true, false, ◌-◌, List, [], ◌∷◌, ◌++◌, length, drop, map, refl, sym, ap, ◌∙◌, subst, arith, length-append, if◌then◌else◌}
 use Rattle.std.proofs.lemmas.List.{map-append}
 use Rattle.cy_event.specs.declared.limits.Limits.{Limits}
 use Rattle.cy_event.specs.declared.steps.Act.{Act}
@@ -12,17 +12,18 @@ use Rattle.cy_event.specs.Charts.{chart_of}
 use Rattle.cy_event.specs.declared.steps.Call.{Call}
 use Rattle.cy_proc.specs.Lines.{LineParts, Represents}
 use Rattle.cy_proc.specs.ProcessorAnswers.{ended_items}
-use Rattle.cy_proc.specs.Processors.{ProcessorParts, RequestFolds, StandsAt, is_open_at, is_over_at, request_folds, service_calls}
-use Rattle.cy_proc.specs.declared.processor.Stage.{Stage}
-use Rattle.cy_proc.specs.declared.processor.Stage.TheVariants as stage
-use Rattle.cy_proc.proofs.Lines.{unsent_whole}
+use Rattle.cy_proc.specs.Processors.{ProcessorParts, StandsFor, is_open_at, is_over_at}
+use Rattle.cy_proc.proofs.Lines.{plainly}
+use Rattle.cy_proc.proofs.Requests.{stands_open, stands_request}
 use Rattle.cy_states.specs.Progress.{Progress, progress_of}
 use Rattle.cyctl.specs.declared.connection.Account.{Account}
 use Rattle.cyctl.proofs.Lives.{all_charts}
-use Rattle.cy_model.specs.Entries.{after_callback, after_turn, callback_reply, job_reply, owed_after, after, event_mark, event_reply, is_closed_to, on_act, on_event, on_run, opening, reply_to, reply_to_event, rested_event}
-use Rattle.cy_model.specs.Folds.{calls, charts, ended_charts, is_gone, is_open, output, took}
+use Rattle.cy_model.specs.Entries.{after_callback, after_turn, callback_reply, after, event_marks, event_reply, is_closed_to, on_act, on_event, on_run, opening, reply_to, reply_to_event, rested_event, turn_reply}
+use Rattle.cy_model.specs.Folds.{calls, charts, ended_charts, is_open}
+use Rattle.cy_model.specs.Outputs.{is_gone, output, took, unsent, writing}
 use Rattle.cy_model.specs.Marks.{opened, Trace}
-use Rattle.cy_model.specs.Settling.{rested, settled}
+use Rattle.cy_model.specs.Replies.{Replied, plain}
+use Rattle.cy_model.specs.Settling.{rested, settled, with_marks}
 use Rattle.cy_model.proofs.Settlings.{settled-rested}
 use Rattle.cyctl.specs.Answered.{Answers, Tells, is_closed_reply}
 use Rattle.cyctl.specs.Lives.{KeepsEach, LivesAfterAct, LivesAfterEvent, LivesAfterTurn, SettlesEach, charts_in}
@@ -59,24 +60,24 @@ goes_on s T R p k written keeps lives each out = record {
   written = out;
 }
 
-pub closed_keeps : (s : Settings) (e : Event) (b : List ℕ) (r : Reply) (T : Trace) (p : Parts) (k : LiveParts) → Keeps s T p → is_closed_reply r ≡ true → LivesAfterEvent e b p.live r k → KeepsEach p.live k → Answers s T (on_event e b) r (record { live = k; written = p.written })
+pub closed_keeps : (s : Settings) (e : Event) (b : List ℕ) (r : Reply) (T : Trace) (p : Parts) (k : LiveParts) → Keeps s T p → is_closed_reply r ≡ true → LivesAfterEvent e b p.live r k → KeepsEach p.live k → Answers s T (on_event e b) (plain r) (record { live = k; written = p.written })
 unfolding after reply_to
 closed_keeps s e b r T p k keeps closed answers each =
     let w = answers T keeps.lives in
-    let is : is_closed_to e T ≡ true = sym (closed_reply T e b) ∙ ap is_closed_reply (sym w.reply) ∙ closed in
-    let here : Lives T k = subst (λ (v : Bool). Lives (if v then T else rested p.live.limits p.live.line.moment ((p.live.line.moment, event_mark T e b) ∷ T)) k) is w.lives in
+    let is : is_closed_to e T ≡ true = sym (closed_reply T e b) ∙ ap (λ (x : Replied). is_closed_reply x.reply) (sym w.reply) ∙ closed in
+    let here : Lives T k = subst (λ (v : Bool). Lives (if v then T else rested p.live.limits p.live.line.moment (with_marks p.live.line.moment (event_marks T e b) T)) k) is w.lives in
     record {
       reply = w.reply;
-      keeps = subst (λ (v : Bool). Keeps s (if v then T else settled s.limits s.rules start ((start, event_mark T e b) ∷ T)) (record { live = k; written = p.written })) (sym is)
+      keeps = subst (λ (v : Bool). Keeps s (if v then T else settled s.limits s.rules start (with_marks start (event_marks T e b) T)) (record { live = k; written = p.written })) (sym is)
           (goes_on s T T p k p.written keeps here each keeps.written);
     }
 
-pub event_keeps : (s : Settings) (e : Event) (b : List ℕ) (r : Reply) (T : Trace) (p : Parts) (k n : LiveParts) (written : List ℕ) → Keeps s T p → is_closed_reply r ≡ false → LivesAfterEvent e b p.live r k → KeepsEach p.live k → SettlesEach s.rules k n → KeepsEach k n → written ≡ p.written ++ drop (length k.line.unsent) n.line.unsent → Answers s T (on_event e b) r (record { live = n; written = written })
+pub event_keeps : (s : Settings) (e : Event) (b : List ℕ) (r : Reply) (T : Trace) (p : Parts) (k n : LiveParts) (written : List ℕ) → Keeps s T p → is_closed_reply r ≡ false → LivesAfterEvent e b p.live r k → KeepsEach p.live k → SettlesEach s.rules k n → KeepsEach k n → written ≡ p.written ++ drop (length k.line.unsent) n.line.unsent → Answers s T (on_event e b) (plain r) (record { live = n; written = written })
 unfolding after reply_to
 event_keeps s e b r T p k n written keeps open_now answers each settles settled_each pushed =
     let w = answers T keeps.lives in
-    let is : is_closed_to e T ≡ false = sym (closed_reply T e b) ∙ ap is_closed_reply (sym w.reply) ∙ open_now in
-    let told : Trace = (start, event_mark T e b) ∷ T in
+    let is : is_closed_to e T ≡ false = sym (closed_reply T e b) ∙ ap (λ (x : Replied). is_closed_reply x.reply) (sym w.reply) ∙ open_now in
+    let told : Trace = with_marks start (event_marks T e b) T in
     let E = rested_event s.limits start T e b in
     let lives_event : Lives E k = at_settings s T p (λ l t. rested_event l t T e b) k keeps w.lives in
     let same : E ≡ rested s.limits start told = ap (λ (v : Bool). if v then T else rested s.limits start told) is in
@@ -87,7 +88,7 @@ event_keeps s e b r T p k n written keeps open_now answers each settles settled_
     let trace : R ≡ settled s.limits s.rules start told = ap (settled s.limits s.rules start) same ∙ settled-rested s.limits s.rules start told in
     let out : written ≡ output R =
     pushed
-    ∙ ap (λ (u : List ℕ). u ++ drop (length k.line.unsent) n.line.unsent) (keeps.written ∙ sym (event_output s.limits start e b T))
+    ∙ ap (λ (u : List ℕ). u ++ drop (length k.line.unsent) n.line.unsent) (keeps.written ∙ sym (event_output s.limits start e b T (plainly T keeps.lives.serves.line.sound)))
     ∙ written_since E R k.line n.line lives_event.serves.line lives.serves.line (settling_writes s.limits s.rules start E) in
     let all : KeepsEach p.live n = record {
       limits = settled_each.limits ∙ each.limits;
@@ -103,19 +104,19 @@ event_keeps s e b r T p k n written keeps open_now answers each settles settled_
 -- ---- turns and acts
 
 -- a connection that is gone takes no turn and no act
-pub gone_run : (s : Settings) (T : Trace) (p : Parts) → Keeps s T p → is_gone T ≡ true → Answers s T on_run reply.Closed p
+pub gone_run : (s : Settings) (T : Trace) (p : Parts) → Keeps s T p → is_gone T ≡ true → Answers s T on_run (plain reply.Closed) p
 unfolding after reply_to
 gone_run s T p keeps gone =
     let S = settled s.limits s.rules start T in
     record {
-      reply = sym (ap (λ (v : Bool). if v then reply.Closed else job_reply (owed_after T S)) gone);
+      reply = sym (ap (λ (v : Bool). if v then plain reply.Closed else turn_reply T S) gone);
       keeps = subst (λ (v : Bool). Keeps s (if v then T else after_turn start T S) p) (sym gone) keeps;
     }
 
-pub gone_act : (s : Settings) (a : Act) (b : List ℕ) (T : Trace) (p : Parts) → Keeps s T p → is_gone T ≡ true → Answers s T (on_act a b) reply.Closed p
+pub gone_act : (s : Settings) (a : Act) (b : List ℕ) (T : Trace) (p : Parts) → Keeps s T p → is_gone T ≡ true → Answers s T (on_act a b) (plain reply.Closed) p
 unfolding after reply_to
 gone_act s a b T p keeps gone = record {
-  reply = sym (ap (λ (v : Bool). if v then reply.Closed else callback_reply T a) gone);
+  reply = sym (ap (λ (v : Bool). if v then plain reply.Closed else callback_reply s.limits T a) gone);
   keeps = subst (λ (v : Bool). Keeps s (if v then T else after_callback s.limits s.rules start T a b) p) (sym gone) keeps;
 }
 
@@ -126,31 +127,31 @@ written_on T R p n s written keeps lives writes pushed =
     ∙ ap (λ (u : List ℕ). u ++ drop (length p.live.line.unsent) n.line.unsent) keeps.written
     ∙ written_since T R p.live.line n.line keeps.lives.serves.line lives.serves.line writes
 
-pub run_keeps : (s : Settings) (r : Reply) (T : Trace) (p : Parts) (n : LiveParts) (written : List ℕ) → Keeps s T p → is_gone T ≡ false → LivesAfterTurn s.rules p.live r n → KeepsEach p.live n → written ≡ p.written ++ drop (length p.live.line.unsent) n.line.unsent → Answers s T on_run r (record { live = n; written = written })
+pub run_keeps : (s : Settings) (r : Reply) (T : Trace) (p : Parts) (n : LiveParts) (written : List ℕ) → Keeps s T p → is_gone T ≡ false → LivesAfterTurn s.rules p.live r n → KeepsEach p.live n → written ≡ p.written ++ drop (length p.live.line.unsent) n.line.unsent → Answers s T on_run (plain r) (record { live = n; written = written })
 unfolding after reply_to
 run_keeps s r T p n written keeps here answers each pushed =
     let S : Limits → ℕ → Trace = λ l t. settled l s.rules t T in
     let w = answers T keeps.lives keeps.kept in
     let R = after_turn start T (S s.limits start) in
     let lives : Lives R n = at_settings s T p (λ l t. after_turn t T (S l t)) n keeps w.lives in
-    let replied : r ≡ job_reply (owed_after T (S s.limits start)) =
+    let replied : plain r ≡ turn_reply T (S s.limits start) =
     w.reply
-    ∙ ap (λ (l : Limits). job_reply (owed_after T (S l p.live.line.moment))) keeps.limits
-    ∙ ap (λ (t : ℕ). job_reply (owed_after T (S s.limits t))) keeps.moment in
+    ∙ ap (λ (l : Limits). turn_reply T (S l p.live.line.moment)) keeps.limits
+    ∙ ap (λ (t : ℕ). turn_reply T (S s.limits t)) keeps.moment in
     record {
-      reply = replied ∙ sym (ap (λ (v : Bool). if v then reply.Closed else job_reply (owed_after T (S s.limits start))) here);
+      reply = replied ∙ sym (ap (λ (v : Bool). if v then plain reply.Closed else turn_reply T (S s.limits start)) here);
       keeps = subst (λ (v : Bool). Keeps s (if v then T else R) (record { live = n; written = written })) (sym here)
           (goes_on s T R p n written keeps lives each (written_on T R p n s written keeps lives (turn_writes s.limits s.rules start T) pushed));
     }
 
-pub act_keeps : (s : Settings) (a : Act) (b : List ℕ) (r : Reply) (T : Trace) (p : Parts) (n : LiveParts) (written : List ℕ) → Keeps s T p → is_gone T ≡ false → LivesAfterAct s.rules a b p.live r n → KeepsEach p.live n → written ≡ p.written ++ drop (length p.live.line.unsent) n.line.unsent → Answers s T (on_act a b) r (record { live = n; written = written })
+pub act_keeps : (s : Settings) (a : Act) (b : List ℕ) (r : Reply) (T : Trace) (p : Parts) (n : LiveParts) (written : List ℕ) → Keeps s T p → is_gone T ≡ false → LivesAfterAct s.rules a b p.live r n → KeepsEach p.live n → written ≡ p.written ++ drop (length p.live.line.unsent) n.line.unsent → Answers s T (on_act a b) (plain r) (record { live = n; written = written })
 unfolding after reply_to
 act_keeps s a b r T p n written keeps here answers each pushed =
     let w = answers T keeps.lives in
     let R = after_callback s.limits s.rules start T a b in
     let lives : Lives R n = at_settings s T p (λ l t. after_callback l s.rules t T a b) n keeps w.lives in
     record {
-      reply = w.reply ∙ sym (ap (λ (v : Bool). if v then reply.Closed else callback_reply T a) here);
+      reply = w.reply ∙ ap (λ (l : Limits). callback_reply l T a) keeps.limits ∙ sym (ap (λ (v : Bool). if v then plain reply.Closed else callback_reply s.limits T a) here);
       keeps = subst (λ (v : Bool). Keeps s (if v then T else R) (record { live = n; written = written })) (sym here)
           (goes_on s T R p n written keeps lives each (written_on T R p n s written keeps lives (act_writes s.limits s.rules start T a b) pushed));
     }
@@ -178,14 +179,12 @@ open_told ks T cs progress o called same kept =
     ∙ sym (map-append chart_of (ended_charts T) (calls T ∷ []))
     ∙ ap (map chart_of) (sym (ap (λ (v : Bool). if v then ended_charts T ++ calls T ∷ [] else ended_charts T) o))
 
-charts_told : (st : Stage) (T : Trace) (cs : List (List ChartItem)) (q : ProcessorParts) → is_over_at st ≡ false → StandsAt st (request_folds T) q → cs ≡ ended_items T → (if is_open_at st then cs ++ q.progress.chart ∷ [] else cs) ≡ map chart_of (charts T)
-charts_told stage.Free T cs q kept s same =
-    same ∙ ap (map chart_of) (sym (ap (λ (v : Bool). if v then ended_charts T ++ calls T ∷ [] else ended_charts T) s.0.closed))
-charts_told stage.Owed T cs q kept s same =
-    open_told [] T cs q.progress (ap (λ (f : RequestFolds). f.is_open) s.same) (ap (λ (f : RequestFolds). f.calls) s.same) s.keeps.progress same
-charts_told stage.Serving T cs q kept s same =
-    open_told service_calls T cs q.progress (ap (λ (f : RequestFolds). f.is_open) s.same) (ap (λ (f : RequestFolds). f.calls) s.same) s.keeps.progress same
-charts_told stage.Over T cs q kept s same = cc
+charts_told : (v : Bool) (T : Trace) (cs : List (List ChartItem)) (q : ProcessorParts) → is_open_at q.stage ≡ v → StandsFor T q → cs ≡ ended_items T → (if v then cs ++ q.progress.chart ∷ [] else cs) ≡ map chart_of (charts T)
+charts_told true T cs q o s same =
+    let w = stands_request T q o s in
+    open_told (calls T) T cs q.progress (stands_open T q s ∙ o) refl (ap (λ (k : ProcessorParts). k.progress) w.same) same
+charts_told false T cs q o s same =
+    same ∙ ap (map chart_of) (sym (ap (λ (v : Bool). if v then ended_charts T ++ calls T ∷ [] else ended_charts T) (stands_open T q s ∙ o)))
 
 -- what the socket took is what doesn't wait of all that was written
 took_told : (T : Trace) (l : LineParts) (written : List ℕ) → Represents T l → written ≡ output T → length written - length l.unsent ≡ took T
@@ -193,9 +192,9 @@ took_told T l written line same =
     omega (
       arith,
       ap length same,
-      ap length (ap (λ (q : LineParts). q.unsent) line.same ∙ unsent_whole T line.sound.whole),
-      length-drop (took T) (output T),
-      line.sound.took_written,
+      ap length (ap (λ (q : LineParts). q.unsent) line.same),
+      length-append (writing T).past (unsent T),
+      line.sound.took_past,
     )
 
 pub tells : (s : Settings) (T : Trace) (p : Parts) (a : Account) → Keeps s T p → a.cause ≡ p.live.line.cause → a.took ≡ length p.written - length p.live.line.unsent → a.written.items ≡ p.written → a.charts.items ≡ charts_in p.live → Tells T a
@@ -203,5 +202,5 @@ tells s T p a keeps why taken wrote drawn = record {
   cause = why ∙ ap (λ (l : LineParts). l.cause) keeps.lives.serves.line.same;
   took = taken ∙ took_told T p.live.line p.written keeps.lives.serves.line keeps.written;
   written = wrote ∙ keeps.written;
-  charts = drawn ∙ charts_told p.live.processor.stage T p.live.charts p.live.processor keeps.kept keeps.lives.serves.processor (all_charts T p.live keeps.kept keeps.lives);
+  charts = drawn ∙ charts_told (is_open_at p.live.processor.stage) T p.live.charts p.live.processor refl keeps.lives.serves.processor (all_charts T p.live keeps.kept keeps.lives);
 }

@@ -1,5 +1,5 @@
 -- What a connection keeps goes on standing for what has happened.
-use Rattle.std.proofs.Common.{◌≡◌, ℕ, Bool, true, false, not, ◌&&◌, List, [], ◌∷◌, ◌++◌, length, map, max, Option, Some, None, is_none, is_some, leb, refl, sym, ap, ◌∙◌, subst, arith, ◌==◌, ◌⊎◌, ⊎_elim, if◌then◌else◌}
+use Rattle.std.proofs.Common.{◌≡◌, ℕ, zero, suc, Bool, true, false, not, ◌&&◌, List, [], ◌∷◌, ◌++◌, length, map, max, Option, Some, None, is_none, is_some, leb, refl, sym, ap, ◌∙◌, subst, arith, ◌==◌, ◌⊎◌, ⊎_elim, inr, take, if◌then◌else◌}
 use Rattle.std.proofs.lemmas.Bool.{eq-eqb, ne_eqb}
 use Rattle.std.proofs.lemmas.List.{append-nil, length-map}
 use Rattle.cy_event.specs.declared.limits.Limits.{Limits}
@@ -9,24 +9,30 @@ use Rattle.cy_event.specs.declared.table.ChartItem.{ChartItem}
 use Rattle.cy_event.specs.Charts.{chart_of}
 use Rattle.cy_map.specs.declared.rule.Rule.{Rule}
 use Rattle.cy_event.specs.declared.steps.Act.{Act}
+use Rattle.cy_event.specs.declared.steps.Act.TheVariants as act
 use Rattle.cy_event.specs.declared.steps.Job.{Job}
 use Rattle.cy_event.specs.declared.steps.Reply.TheVariants as reply
-use Rattle.cy_model.specs.Entries.{act_marks, act_reply, after_act, after_callback, after_turn, callback_reply, ended_count, job_marks, job_reply, owed_after, reply_to_event, rested_act, rested_callback, rested_event, rested_turn}
-use Rattle.cy_model.specs.Jobs.{job_in, next_job}
-use Rattle.cy_model.specs.Folds.{cause_of, ended_charts, is_open, is_served, part_of, running, state_of, unsent}
+use Rattle.cy_model.specs.Entries.{act_marks, act_reply, after_act, after_callback, after_turn, callback_reply, ended_count, is_closed_act, is_full, job_marks, job_reply, open_act_marks, open_act_reply, owed_after, reply_to_event, rested_act, rested_callback, rested_event, rested_turn, write_takes}
+use Rattle.cy_model.specs.Jobs.{asking, job_owed, next_job}
+use Rattle.cy_model.specs.Folds.{cause_of, ended_charts, is_open, running}
+use Rattle.cy_model.specs.Outputs.{answer_of, unsent}
 use Rattle.cy_states.specs.Progress.{Progress}
-use Rattle.cy_model.specs.Marks.{Mark, Trace}
-use Rattle.cy_model.specs.Settling.{begin_bound, front_of, is_awaited, may_begin, rested, settled, taken_up, with_marks}
-use Rattle.cy_model.proofs.Gone.{no_move}
+use Rattle.cy_model.specs.Marks.{Mark, Trace, put}
+use Rattle.cy_model.specs.Replies.{Replied, is_refusal, plain, replied_in}
+use Rattle.cy_model.specs.Settling.{after_move, front_of, is_awaited, may_begin, may_begin_by, rested, settled, taken_up, with_marks}
+use Rattle.cy_model.proofs.Built.{IsPlain, has_whole}
+use Rattle.cy_model.proofs.Gone.{open_may_not_begin, open_still}
 use Rattle.cy_model.proofs.Settlings.{none-due, settled-at-rest, settled-done, settled-rested, settled-taken}
 use Rattle.cy_proc.specs.LineAnswers.{AnswersEachEvent, RestsEach as LineRestsEach}
 use Rattle.cy_proc.specs.LineChanges.{is_due}
 use Rattle.cy_proc.specs.Lines.{LineParts, Represents}
 use Rattle.cy_proc.specs.ProcessorAnswers.{AnswersEachAct, AnswersEachTurn, Serves, ServesAfter, TakesUp, ended_items}
-use Rattle.cy_proc.specs.Processors.{ProcessorParts, RequestFolds, StandsAt, StandsFor, fresh_processor, is_open_at, is_over_at, over_charts, over_charts_at, request_folds}
+use Rattle.cy_proc.specs.Processors.{ProcessorParts, fresh_processor, has_request_at, is_open_at, is_over_at, over_charts, over_charts_at}
 use Rattle.cy_proc.specs.declared.processor.Stage.{Stage}
 use Rattle.cy_proc.specs.declared.processor.Stage.TheVariants as stage
-use Rattle.cy_proc.proofs.Requests.{SameRequests, event_same, rested_open, rested_same, stands_open, stands_same}
+use Rattle.cy_proc.proofs.Lines.{plainly}
+use Rattle.cy_proc.proofs.Plain.{rested_open}
+use Rattle.cy_proc.proofs.Requests.{SameRequests, event_same, rested_same, stands_free, stands_idle, stands_open, stands_same}
 use Rattle.cyctl.specs.Lives.{AnswersLive, AnswersTurn, IsAlive, RestsEach, SettlesEach}
 use Rattle.cyctl.specs.Parts.{LiveParts, Lives}
 
@@ -43,83 +49,85 @@ same_lives T R p l s same line = record {
 last_moment : (m : ℕ) → max m 0 ≡ m
 last_moment m = omega arith
 
-pub told_lives : (e : Event) (b : List ℕ) (r : Reply) (T : Trace) (p : LiveParts) (l : LineParts) → Lives T p → l.moment ≡ max p.line.moment 0 → AnswersEachEvent p.limits l.moment e b p.line r l → AnswersLive (reply_to_event T e b) (rested_event p.limits p.line.moment T e b) r (record p { line = l })
+pub told_lives : (e : Event) (b : List ℕ) (r : Reply) (T : Trace) (p : LiveParts) (l : LineParts) → Lives T p → l.moment ≡ max p.line.moment 0 → AnswersEachEvent p.limits l.moment e b p.line r l → AnswersLive (plain (reply_to_event T e b)) (rested_event p.limits p.line.moment T e b) (plain r) (record p { line = l })
 told_lives e b r T p l s later answers =
     let told = answers T s.serves.line in
     let at : l.moment ≡ p.line.moment = later ∙ last_moment p.line.moment in
     record {
-      reply = told.reply;
+      reply = ap plain told.reply;
       lives = subst (λ (m : ℕ). Lives (rested_event p.limits m T e b) (record p { line = l })) at
-          (same_lives T (rested_event p.limits l.moment T e b) p l s (event_same p.limits l.moment e b T) told.stands);
+          (same_lives T (rested_event p.limits l.moment T e b) p l s (event_same p.limits l.moment e b T (plainly T s.serves.line.sound)) told.stands);
     }
 
 pub rested_lives : (T : Trace) (p : LiveParts) (l : LineParts) → Lives T p → LineRestsEach p.limits p.line.moment p.line l → Lives (rested p.limits p.line.moment T) (record p { line = l })
 rested_lives T p l s rests =
-    same_lives T (rested p.limits p.line.moment T) p l s (rested_same p.limits p.line.moment T) (rests T s.serves.line)
+    same_lives T (rested p.limits p.line.moment T) p l s (rested_same p.limits p.line.moment T (plainly T s.serves.line.sound)) (rests T s.serves.line)
 
 -- nothing is done by itself while a request is open
 pub open_lives : (T : Trace) (p : LiveParts) → Lives T p → is_open_at p.processor.stage ≡ true → Lives (rested p.limits p.line.moment T) p
-open_lives T p s o = subst (λ (R : Trace). Lives R p) (sym (rested_open p.limits p.line.moment T (stands_open p.processor.stage T p.processor o s.serves.processor))) s
+open_lives T p s o = subst (λ (R : Trace). Lives R p) (sym (rested_open p.limits p.line.moment T (plainly T s.serves.line.sound) (stands_open T p.processor s.serves.processor ∙ o))) s
 
 -- ---- what is known of every connection
 
 pub alive_limits : (p : LiveParts) → IsAlive p → p.processor.limits ≡ p.limits
 alive_limits p a = a.1.limits
 
-is_free : (st : Stage) (f : RequestFolds) (p : ProcessorParts) → is_open_at st ≡ false → is_over_at st ≡ false → StandsAt st f p → p ≡ fresh_processor p.limits
-is_free stage.Free f p closed kept s = s.1
-is_free stage.Owed f p closed kept s = cc
-is_free stage.Serving f p closed kept s = cc
-is_free stage.Over f p closed kept s = cc
+-- a stage without a request and without a refused head is free
+free_stage : (st : Stage) → is_open_at st ≡ false → is_over_at st ≡ false → st ≡ stage.Free
+free_stage stage.Free closed kept = refl
+free_stage stage.Owed closed kept = cc
+free_stage stage.Serving closed kept = cc
+free_stage stage.Over closed kept = cc
+free_stage stage.Refused closed kept = cc
 
 pub alive_free : (p : LiveParts) → IsAlive p → is_open_at p.processor.stage ≡ false → is_over_at p.processor.stage ≡ false → p.processor ≡ fresh_processor p.processor.limits
-alive_free p a closed kept = is_free p.processor.stage (request_folds a.0) p.processor closed kept a.1.serves.processor
-
-closed_at : (st : Stage) (f : RequestFolds) (p : ProcessorParts) → is_open_at st ≡ false → StandsAt st f p → f.is_open ≡ false
-closed_at stage.Free f p closed s = s.0.closed
-closed_at stage.Owed f p closed s = cc
-closed_at stage.Serving f p closed s = cc
-closed_at stage.Over f p closed s = ap (λ (g : RequestFolds). g.is_open) s.same
+alive_free p a closed kept = stands_free a.0 p.processor (free_stage p.processor.stage closed kept) a.1.serves.processor
 
 -- the line knows whether a request is open
+alive_knows : (p : LiveParts) → IsAlive p → p.line.is_open ≡ is_open_at p.processor.stage
+alive_knows p a = ap (λ (l : LineParts). l.is_open) a.1.serves.line.same ∙ stands_open a.0 p.processor a.1.serves.processor
+
 pub alive_closed : (p : LiveParts) → IsAlive p → is_open_at p.processor.stage ≡ false → p.line.is_open ≡ false
-alive_closed p a closed =
-    ap (λ (l : LineParts). l.is_open) a.1.serves.line.same ∙ closed_at p.processor.stage (request_folds a.0) p.processor closed a.1.serves.processor
+alive_closed p a closed = alive_knows p a ∙ closed
 
 pub alive_open : (p : LiveParts) → IsAlive p → is_open_at p.processor.stage ≡ true → p.line.is_open ≡ true
-alive_open p a o =
-    ap (λ (l : LineParts). l.is_open) a.1.serves.line.same ∙ stands_open p.processor.stage a.0 p.processor o a.1.serves.processor
+alive_open p a o = alive_knows p a ∙ o
 
 -- ---- a request that is over
 
-over_stands : (T : Trace) (st : Stage) (p : ProcessorParts) → is_over_at st ≡ true → StandsAt st (request_folds T) p → StandsFor T (fresh_processor p.limits)
-over_stands T stage.Free p over s = cc
-over_stands T stage.Owed p over s = cc
-over_stands T stage.Serving p over s = cc
-over_stands T stage.Over p over s = (
-  record {
-    closed = ap (λ (f : RequestFolds). f.is_open) s.same;
-    none_runs = ap (λ (f : RequestFolds). f.running) s.same;
-  },
-  refl,
-)
+over_not_open : (st : Stage) → is_over_at st ≡ true → is_open_at st ≡ false
+over_not_open stage.Free over = refl
+over_not_open stage.Owed over = cc
+over_not_open stage.Serving over = cc
+over_not_open stage.Over over = refl
+over_not_open stage.Refused over = refl
 
-over_chart : (st : Stage) (items : List ChartItem) (progress : Progress) → is_over_at st ≡ true → progress.chart ≡ items → over_charts_at st progress ≡ items ∷ []
-over_chart stage.Free items progress over same = cc
-over_chart stage.Owed items progress over same = cc
-over_chart stage.Serving items progress over same = cc
-over_chart stage.Over items progress over same = ap (λ (c : List ChartItem). c ∷ []) same
-
--- its chart is kept, and the processor is cleared
-pub kept_lives : (T : Trace) (p : LiveParts) (items : List ChartItem) (q : ProcessorParts) → is_over_at p.processor.stage ≡ true → p.processor.progress.chart ≡ items → q ≡ fresh_processor p.processor.limits → Lives T p → Lives T (record p { processor = q; charts = p.charts ++ items ∷ [] })
-kept_lives T p items q over same cleared s =
-    subst (λ (k : ProcessorParts). Lives T (record p { processor = k; charts = p.charts ++ items ∷ [] })) (sym cleared) (record {
-      serves = record { line = s.serves.line; processor = over_stands T p.processor.stage p.processor over s.serves.processor };
+-- its chart is kept, if it has one, and the processor is cleared
+pub kept_lives : (T : Trace) (p : LiveParts) (q : ProcessorParts) (cs : List (List ChartItem)) → is_over_at p.processor.stage ≡ true → q ≡ fresh_processor p.processor.limits → cs ≡ p.charts ++ over_charts p.processor → Lives T p → Lives T (record p { processor = q; charts = cs })
+kept_lives T p q cs over cleared kept s =
+    subst (λ (k : ProcessorParts). Lives T (record p { processor = k; charts = cs })) (sym cleared) (record {
+      serves = record {
+        line = s.serves.line;
+        processor = inr (record { idle = stands_idle T p.processor (over_not_open p.processor.stage over) s.serves.processor; fresh = refl });
+      };
       limits = s.limits;
-      charts = append-nil (p.charts ++ items ∷ [])
-          ∙ ap (λ (x : List (List ChartItem)). p.charts ++ x) (sym (over_chart p.processor.stage items p.processor.progress over same))
-          ∙ s.charts;
+      charts = append-nil cs ∙ kept ∙ s.charts;
     })
+
+-- a chart stands only of a request that was taken up
+pub no_request_chart : (st : Stage) (progress : Progress) → is_over_at st ≡ true → has_request_at st ≡ false → over_charts_at st progress ≡ []
+no_request_chart stage.Free progress over none = refl
+no_request_chart stage.Owed progress over none = refl
+no_request_chart stage.Serving progress over none = refl
+no_request_chart stage.Over progress over none = cc
+no_request_chart stage.Refused progress over none = refl
+
+pub request_chart : (st : Stage) (progress : Progress) → is_over_at st ≡ true → has_request_at st ≡ true → over_charts_at st progress ≡ progress.chart ∷ []
+request_chart stage.Free progress over some = cc
+request_chart stage.Owed progress over some = cc
+request_chart stage.Serving progress over some = cc
+request_chart stage.Over progress over some = refl
+request_chart stage.Refused progress over some = cc
 
 -- ---- settling
 
@@ -138,6 +146,7 @@ none_over stage.Free progress kept = refl
 none_over stage.Owed progress kept = refl
 none_over stage.Serving progress kept = refl
 none_over stage.Over progress kept = cc
+none_over stage.Refused progress kept = cc
 
 -- the charts that are kept are all
 pub all_charts : (T : Trace) (p : LiveParts) → is_over_at p.processor.stage ≡ false → Lives T p → p.charts ≡ ended_items T
@@ -190,9 +199,10 @@ not_due : (limits : Limits) (T : Trace) (p : LiveParts) → (not (is_open_at p.p
 not_due limits T p none s =
     elim (is_open_at p.processor.stage) as (λ v. is_open_at p.processor.stage ≡ v → (not v && is_due limits p.line) ≡ false → (may_begin T && not (is_awaited (front_of limits T))) ≡ false) [
       | true ↦ λ o n.
-          ap (λ (v : Bool). (not v && (is_none (cause_of T) && leb (length (unsent T)) begin_bound)) && not (is_awaited (front_of limits T)))
-          (stands_open p.processor.stage T p.processor o s.serves.processor)
-      | false ↦ λ o n. ap (λ (l : LineParts). is_due limits l) (sym s.serves.line.same) ∙ n
+          ap (λ (v : Bool). v && not (is_awaited (front_of limits T))) (open_may_not_begin T (stands_open T p.processor s.serves.processor ∙ o))
+      | false ↦ λ o n.
+          ap (λ (v : Bool). may_begin_by (is_open T) (cause_of T) v (unsent T) && not (is_awaited (front_of limits T))) (has_whole T (plainly T s.serves.line.sound))
+          ∙ ap (λ (l : LineParts). is_due limits l) (sym s.serves.line.same) ∙ n
     ] refl none
 
 -- so it is settled
@@ -209,22 +219,19 @@ rest_settles rules limits m T p due same_limits same_moment w rest none =
 
 -- ---- acts and turns
 
-may_not_begin_open : (T : Trace) → is_open T ≡ true → may_begin T ≡ false
-may_not_begin_open T o = ap (λ (v : Bool). not v && (is_none (cause_of T) && leb (length (unsent T)) begin_bound)) o
-
-settled_open : (limits : Limits) (rules : List Rule) (t : ℕ) (T : Trace) → is_open T ≡ true → settled limits rules t T ≡ T
-settled_open limits rules t T o = settled-done limits rules t T (no_move limits rules t T (may_not_begin_open T o))
+settled_open : (limits : Limits) (rules : List Rule) (t : ℕ) (T : Trace) → IsPlain T → is_open T ≡ true → settled limits rules t T ≡ T
+settled_open limits rules t T p o = settled-done limits rules t T (ap (after_move t T) (open_still limits rules T p o))
 
 -- what follows of an act of an open request, when it is settled
-settled_act : (limits : Limits) (rules : List Rule) (t : ℕ) (T : Trace) (o : Option (List Mark)) → is_open T ≡ true → settled limits rules t (rested_act limits t T o) ≡ after_act limits rules t T o
-settled_act limits rules t T None open_now = settled_open limits rules t T open_now
-settled_act limits rules t T (Some ms) open_now = settled-rested limits rules t (with_marks t ms T)
+settled_act : (limits : Limits) (rules : List Rule) (t : ℕ) (T : Trace) (o : Option (List Mark)) → IsPlain T → is_open T ≡ true → settled limits rules t (rested_act limits t T o) ≡ after_act limits rules t T o
+settled_act limits rules t T None p open_now = settled_open limits rules t T p open_now
+settled_act limits rules t T (Some ms) p open_now = settled-rested limits rules t (with_marks t ms T)
 
-settled_callback : (limits : Limits) (rules : List Rule) (t : ℕ) (T : Trace) (a : Act) (b : List ℕ) → is_open T ≡ true → settled limits rules t (rested_callback limits t T a b) ≡ after_callback limits rules t T a b
-settled_callback limits rules t T a b o =
-    elim (is_some (running T)) as (λ v. settled limits rules t (if v then rested_act limits t T (act_marks T a b) else T) ≡ (if v then after_act limits rules t T (act_marks T a b) else T)) [
-      | true ↦ settled_act limits rules t T (act_marks T a b) o
-      | false ↦ settled_open limits rules t T o
+settled_callback : (limits : Limits) (rules : List Rule) (t : ℕ) (T : Trace) (a : Act) (b : List ℕ) → IsPlain T → is_open T ≡ true → settled limits rules t (rested_callback limits t T a b) ≡ after_callback limits rules t T a b
+settled_callback limits rules t T a b p o =
+    elim (is_some (running T)) as (λ v. settled limits rules t (if v then rested_act limits t T (act_marks limits T a b) else T) ≡ (if v then after_act limits rules t T (act_marks limits T a b) else T)) [
+      | true ↦ settled_act limits rules t T (act_marks limits T a b) p o
+      | false ↦ settled_open limits rules t T p o
     ]
 
 -- a request that is open isn't over
@@ -233,8 +240,18 @@ open_not_over stage.Free o = cc
 open_not_over stage.Owed o = refl
 open_not_over stage.Serving o = refl
 open_not_over stage.Over o = cc
+open_not_over stage.Refused o = cc
 
-pub act_lives : (rules : List Rule) (a : Act) (b : List ℕ) (r : Reply) (T : Trace) (p new : LiveParts) (l : LineParts) (q : ProcessorParts) → is_open_at p.processor.stage ≡ true → Lives T p → l.moment ≡ max p.line.moment 0 → q.limits ≡ p.processor.limits → AnswersEachAct a b p.line p.processor r l q → SettlesEach rules (record p { line = l; processor = q }) new → AnswersLive (callback_reply T a) (after_callback p.limits rules p.line.moment T a b) r new
+-- nothing is handed over where there is no room for it
+take_none : (n : ℕ) → take {X = ℕ} n [] ≡ []
+take_none zero = refl
+take_none (suc n) = refl
+
+no_room : (r : Reply) → replied_in r [] ≡ plain r
+no_room (reply.Got n) = ap (λ (u : List ℕ). record { reply = reply.Got n; got = u }) (take_none n)
+no_room r = refl
+
+pub act_lives : (rules : List Rule) (a : Act) (b : List ℕ) (r : Reply) (T : Trace) (p new : LiveParts) (l : LineParts) (q : ProcessorParts) → is_open_at p.processor.stage ≡ true → Lives T p → l.moment ≡ max p.line.moment 0 → q.limits ≡ p.processor.limits → AnswersEachAct a b p.line p.processor r [] l q → SettlesEach rules (record p { line = l; processor = q }) new → AnswersLive (callback_reply p.limits T a) (after_callback p.limits rules p.line.moment T a b) (plain r) new
 act_lives rules a b r T p new l q o s later same answers settles =
     let w = answers T s.serves in
     let at : l.moment ≡ p.line.moment = later ∙ last_moment p.line.moment in
@@ -243,22 +260,69 @@ act_lives rules a b r T p new l q o s later same answers settles =
     let trace : settled p.limits rules l.moment (rested_callback q.limits l.moment T a b) ≡ after_callback p.limits rules p.line.moment T a b =
     ap (λ (k : Limits). settled p.limits rules l.moment (rested_callback k l.moment T a b)) to_limits
     ∙ ap (λ (t : ℕ). settled p.limits rules t (rested_callback p.limits t T a b)) at
-    ∙ settled_callback p.limits rules p.line.moment T a b (stands_open p.processor.stage T p.processor o s.serves.processor) in
-    record { reply = w.reply; lives = subst (λ (R : Trace). Lives R new) trace lives }
+    ∙ settled_callback p.limits rules p.line.moment T a b (plainly T s.serves.line.sound) (stands_open T p.processor s.serves.processor ∙ o) in
+    record {
+      reply = sym (no_room r) ∙ w.reply ∙ ap (λ (k : Limits). callback_reply k T a) to_limits;
+      lives = subst (λ (R : Trace). Lives R new) trace lives;
+    }
 
-idle_at : (st : Stage) (f : RequestFolds) (p : ProcessorParts) → is_open_at st ≡ false → StandsAt st f p → f.running ≡ None
-idle_at stage.Free f p closed s = s.0.none_runs
-idle_at stage.Owed f p closed s = cc
-idle_at stage.Serving f p closed s = cc
-idle_at stage.Over f p closed s = ap (λ (g : RequestFolds). g.running) s.same
+-- ---- refused acts
+
+module _ (limits : Limits) (t : ℕ) (T : Trace) where
+  open_act_refused : (a : Act) (b : List ℕ) → is_refusal (open_act_reply limits T a).reply ≡ true → rested_act limits t T (open_act_marks limits T a b) ≡ T
+  open_act_refused (act.Write n) b e =
+      elim (is_full (answer_of T) n) as (λ v. is_refusal (if v then reply.Again else reply.Taken (write_takes (answer_of T) n)) ≡ true
+      → rested_act limits t T (if v then None else Some (put (take (write_takes (answer_of T) n) b) ∷ [])) ≡ T) [
+        | true ↦ λ q. refl
+        | false ↦ λ q. cc
+      ] e
+  open_act_refused act.Return b e = cc
+
+  -- a refused act leaves the trace
+  callback_refused : (a : Act) (b : List ℕ) → is_refusal (callback_reply limits T a).reply ≡ true → rested_callback limits t T a b ≡ T
+  callback_refused a b e =
+      elim (is_some (running T)) as (λ v. is_refusal (if v then act_reply limits T a else plain reply.NotActive).reply ≡ true
+      → (if v then rested_act limits t T (act_marks limits T a b) else T) ≡ T) [
+        | true ↦ λ q.
+            elim (is_closed_act a T) as (λ v. is_refusal (if v then plain reply.Closed else open_act_reply limits T a).reply ≡ true
+            → rested_act limits t T (if v then None else open_act_marks limits T a b) ≡ T) [
+              | true ↦ λ x. refl
+              | false ↦ λ x. open_act_refused a b x
+            ] q
+        | false ↦ λ q. refl
+      ] e
+
+-- it is followed by nothing
+pub refused_lives : (rules : List Rule) (a : Act) (b : List ℕ) (r : Reply) (T : Trace) (p : LiveParts) (l : LineParts) (q : ProcessorParts) → is_refusal r ≡ true → is_open_at p.processor.stage ≡ true → Lives T p → l.moment ≡ max p.line.moment 0 → q.limits ≡ p.processor.limits → AnswersEachAct a b p.line p.processor r [] l q → AnswersLive (callback_reply p.limits T a) (after_callback p.limits rules p.line.moment T a b) (plain r) (record p { line = l; processor = q })
+refused_lives rules a b r T p l q refused_now o s later same answers =
+    let w = answers T s.serves in
+    let m = p.line.moment in
+    let at : l.moment ≡ m = later ∙ last_moment m in
+    let to_limits : q.limits ≡ p.limits = same ∙ s.limits in
+    let replied : plain r ≡ callback_reply p.limits T a = sym (no_room r) ∙ w.reply ∙ ap (λ (k : Limits). callback_reply k T a) to_limits in
+    let here : is_refusal (callback_reply p.limits T a).reply ≡ true = sym (ap (λ (x : Replied). is_refusal x.reply) replied) ∙ refused_now in
+    let stays : rested_callback p.limits m T a b ≡ T = callback_refused p.limits m T a b here in
+    let open_now : is_open T ≡ true = stands_open T p.processor s.serves.processor ∙ o in
+    let trace : rested_callback q.limits l.moment T a b ≡ after_callback p.limits rules m T a b =
+    ap (λ (k : Limits). rested_callback k l.moment T a b) to_limits
+    ∙ ap (λ (t : ℕ). rested_callback p.limits t T a b) at
+    ∙ stays
+    ∙ sym (settled_open p.limits rules m T (plainly T s.serves.line.sound) open_now)
+    ∙ sym (ap (settled p.limits rules m) stays)
+    ∙ settled_callback p.limits rules m T a b (plainly T s.serves.line.sound) open_now in
+    record {
+      reply = replied;
+      lives = subst (λ (R : Trace). Lives R (record p { line = l; processor = q })) trace
+          (served_lives T (rested_callback q.limits l.moment T a b) p l q (open_not_over p.processor.stage o) to_limits s w.after);
+    }
 
 -- without an open request no callback runs
-pub idle_lives : (rules : List Rule) (a : Act) (b : List ℕ) (T : Trace) (p : LiveParts) → is_open_at p.processor.stage ≡ false → Lives T p → AnswersLive (callback_reply T a) (after_callback p.limits rules p.line.moment T a b) reply.NotActive p
+pub idle_lives : (rules : List Rule) (a : Act) (b : List ℕ) (T : Trace) (p : LiveParts) → is_open_at p.processor.stage ≡ false → Lives T p → AnswersLive (callback_reply p.limits T a) (after_callback p.limits rules p.line.moment T a b) (plain reply.NotActive) p
 idle_lives rules a b T p closed s =
-    let none : running T ≡ None = idle_at p.processor.stage (request_folds T) p.processor closed s.serves.processor in
+    let none : running T ≡ None = (stands_idle T p.processor closed s.serves.processor).none_runs in
     record {
-      reply = sym (ap (λ (o : Option Job). if is_some o then act_reply T a else reply.NotActive) none);
-      lives = subst (λ (R : Trace). Lives R p) (sym (ap (λ (o : Option Job). if is_some o then after_act p.limits rules p.line.moment T (act_marks T a b) else T) none)) s;
+      reply = sym (ap (λ (o : Option Job). if is_some o then act_reply p.limits T a else plain reply.NotActive) none);
+      lives = subst (λ (R : Trace). Lives R p) (sym (ap (λ (o : Option Job). if is_some o then after_act p.limits rules p.line.moment T (act_marks p.limits T a b) else T) none)) s;
     }
 
 -- how many requests have ended
@@ -277,12 +341,12 @@ idle_turn rules T p mid kept kept_mid s settles why =
     (λ other. none_owed T S (ne_eqb (ended_count S) (ended_count T) (λ e. other (ended_length S mid kept_mid lives ∙ e ∙ sym (ended_length T p kept s)))))
     (λ closed.
     elim (ended_count S == ended_count T) as (λ v. (if v then next_job S else None) ≡ None) [
-      | true ↦ ap (λ (v : Bool). if v && is_none (running S) then job_in (state_of S) (is_served S) (part_of S) else None) (closed_at mid.processor.stage (request_folds S) mid.processor closed lives.serves.processor)
+      | true ↦ ap (λ (v : Bool). if v && is_none (running S) then job_owed (asking S) else None) (stands_open S mid.processor lives.serves.processor ∙ closed)
       | false ↦ refl
     ])
     why in
     record {
-      reply = sym (ap job_reply none);
+      reply = sym (ap (λ (o : Option Job). plain (job_reply o)) none);
       lives = subst (λ (o : Option Job). Lives (with_marks p.line.moment (job_marks o) S) mid) (sym none) lives;
     }
 
@@ -293,7 +357,7 @@ turn_lives rules r T p mid l q kept kept_mid s settles equal o same_limits same_
     let w = answers S lives.serves in
     let to_mid : q.limits ≡ mid.limits = same ∙ lives.limits in
     let at : l.moment ≡ p.line.moment = later ∙ last_moment mid.line.moment ∙ same_moment in
-    let rests : rested q.limits l.moment S ≡ S = rested_open q.limits l.moment S (stands_open mid.processor.stage S mid.processor o lives.serves.processor) in
+    let rests : rested q.limits l.moment S ≡ S = rested_open q.limits l.moment S (plainly S lives.serves.line.sound) (stands_open S mid.processor lives.serves.processor ∙ o) in
     let counts : (ended_count S == ended_count T) ≡ true = eq-eqb (ended_count S) (ended_count T) (sym (ended_length S mid kept_mid lives) ∙ equal ∙ ended_length T p kept s) in
     let owed : owed_after S (rested q.limits l.moment S) ≡ owed_after T S =
     ap (owed_after S) rests
@@ -303,7 +367,7 @@ turn_lives rules r T p mid l q kept kept_mid s settles equal o same_limits same_
     ∙ ap (with_marks l.moment (job_marks (owed_after T S))) rests
     ∙ ap (λ (t : ℕ). with_marks t (job_marks (owed_after T S)) S) at in
     record {
-      reply = w.reply ∙ ap job_reply owed;
+      reply = w.reply ∙ ap (λ (o : Option Job). plain (job_reply o)) owed;
       lives = subst (λ (R : Trace). Lives R (record mid { line = l; processor = q })) trace (served_lives S (rested_turn q.limits l.moment S) mid l q kept_mid to_mid lives w.after);
     }
 
@@ -314,7 +378,7 @@ turn_alive p r l q a o same answers =
     (rested_turn q.limits l.moment a.0, served_lives a.0 (rested_turn q.limits l.moment a.0) p l q (open_not_over p.processor.stage o) (same ∙ a.1.limits) a.1 w.after)
 
 -- and after an act
-pub act_alive : (a : Act) (b : List ℕ) (p : LiveParts) (r : Reply) (l : LineParts) (q : ProcessorParts) → IsAlive p → is_open_at p.processor.stage ≡ true → q.limits ≡ p.processor.limits → AnswersEachAct a b p.line p.processor r l q → IsAlive (record p { line = l; processor = q })
+pub act_alive : (a : Act) (b : List ℕ) (p : LiveParts) (r : Reply) (l : LineParts) (q : ProcessorParts) → IsAlive p → is_open_at p.processor.stage ≡ true → q.limits ≡ p.processor.limits → AnswersEachAct a b p.line p.processor r [] l q → IsAlive (record p { line = l; processor = q })
 act_alive a b p r l q alive o same answers =
     let w = answers alive.0 alive.1.serves in
     (rested_callback q.limits l.moment alive.0 a b, served_lives alive.0 (rested_callback q.limits l.moment alive.0 a b) p l q (open_not_over p.processor.stage o) (same ∙ alive.1.limits) alive.1 w.after)

@@ -1,15 +1,16 @@
 -- The report of a run whose steps admit one connection at most.
-use Rattle.std.proofs.Common.{◌≡◌, ℕ, List, ◌++◌, Option, Some, None, reverse, flat_map, sym, ap, ◌∙◌}
+use Rattle.std.proofs.Common.{◌≡◌, ℕ, List, ◌++◌, Option, Some, None, map, reverse, flat_map, sym, ap, ◌∙◌}
 use Rattle.std.proofs.lemmas.List.{append-nil}
 use Rattle.cy_event.specs.declared.limits.Limits.{Limits}
 use Rattle.cy_event.specs.declared.steps.CloseCause.{CloseCause}
-use Rattle.cy_event.specs.declared.steps.Reply.{Reply}
 use Rattle.cy_event.specs.declared.steps.Step.{Step}
 use Rattle.cy_event.specs.declared.table.ChartItem.{ChartItem}
 use Rattle.cy_map.specs.declared.rule.Rule.{Rule}
 use Rattle.cy_model.specs.Connections.{History, connections, replies}
 use Rattle.cy_model.specs.Entries.{trace_of}
-use Rattle.cy_model.specs.Folds.{cause_of, output, took}
+use Rattle.cy_model.specs.Folds.{cause_of}
+use Rattle.cy_model.specs.Outputs.{output, took}
+use Rattle.cy_model.specs.Replies.{Replied, plain}
 use Rattle.cy_model.specs.Reports.{by_number, connection_text, history_text, reply_lines, report, trace_text}
 use Rattle.cy_script.specs.declared.script.Script.{Script}
 use Rattle.cyctl.specs.Answered.{TellsEach}
@@ -46,15 +47,15 @@ admitted_is a account out now tells written s hs h =
 -- the report is the lines of the replies and those of the connection that is kept
 pub report_is : (script : Script) (s : Settings) (steps : List Step) (run : Run) (text : List ℕ)
     → s.limits ≡ script.limits → s.rules ≡ script.rules → steps ≡ script.steps
-    → run.replies.items ≡ replies s.limits s.rules (reverse steps) → StandsFor (reverse steps) run.connector → run.connector.settings ≡ s
-    → TellsConnections run.connector.admitted (reply_lines 1 run.replies.items) text → text ≡ replayed script
+    → map plain run.replies.items ≡ replies s.limits s.rules (reverse steps) → StandsFor (reverse steps) run.connector → run.connector.settings ≡ s
+    → TellsConnections run.connector.admitted (reply_lines 1 (map plain run.replies.items)) text → text ≡ replayed script
 unfolding report
 report_is script s steps run text limits rules same replied stands settings tells =
     let w = reverse steps in
     let cs = run.connector.settings in
     tells cs (connections cs.limits cs.rules w) stands.admitted
-    ∙ ap (λ (t : Settings). reply_lines 1 run.replies.items ++ flat_map (history_text t.limits t.rules) (by_number (connections t.limits t.rules w))) settings
-    ∙ ap (λ (rs : List Reply). reply_lines 1 rs ++ flat_map (history_text s.limits s.rules) (by_number (connections s.limits s.rules w))) replied
+    ∙ ap (λ (t : Settings). reply_lines 1 (map plain run.replies.items) ++ flat_map (history_text t.limits t.rules) (by_number (connections t.limits t.rules w))) settings
+    ∙ ap (λ (rs : List Replied). reply_lines 1 rs ++ flat_map (history_text s.limits s.rules) (by_number (connections s.limits s.rules w))) replied
     ∙ ap (λ (l : Limits). report l s.rules steps) limits
     ∙ ap (λ (rs : List Rule). report script.limits rs steps) rules
     ∙ ap (λ (u : List Step). report script.limits script.rules u) same

@@ -6,6 +6,7 @@ use Rattle.cy_event.specs.declared.steps.Step.{Step}
 use Rattle.cy_event.specs.declared.steps.Step.TheVariants as step
 use Rattle.cy_model.specs.Connections.{History, connections, kind_of, moment, reply_by}
 use Rattle.cy_model.specs.Entries.{Entry, after, opening, trace_of}
+use Rattle.cy_model.specs.Replies.{plain}
 use Rattle.cy_model.specs.Reports.{by_number, history_text}
 use Rattle.cy_model.specs.Steps.{IsWithinBytes}
 use Rattle.cy_script.specs.Conditions.{is_admit}
@@ -64,7 +65,7 @@ Admits s c r now =
 
 -- a step is answered by the definition, and the connector stands for the steps with it
 pub record TakesStep (w : List Step) (s : Step) (old : Connector) (r : Reply) (new : Connector) : Type 0 where
-  pub reply : r ≡ reply_by old.settings.limits old.settings.rules (kind_of s) (moment (s ∷ w)) (connections old.settings.limits old.settings.rules w)
+  pub reply : plain r ≡ reply_by old.settings.limits old.settings.rules (kind_of s) (moment (s ∷ w)) (connections old.settings.limits old.settings.rules w)
   pub stands : StandsFor (s ∷ w) new
 
 -- ---- lists of steps

@@ -5,8 +5,9 @@ use Rattle.cy_event.specs.declared.steps.Event.{Event}
 use Rattle.cy_event.specs.declared.steps.Reply.{Reply}
 use Rattle.cy_event.specs.declared.table.ChartItem.{ChartItem}
 use Rattle.cy_map.specs.declared.rule.Rule.{Rule}
-use Rattle.cy_model.specs.Entries.{after_callback, after_turn, callback_reply, job_reply, owed_after, reply_to_event, rested_event}
+use Rattle.cy_model.specs.Entries.{after_callback, after_turn, callback_reply, reply_to_event, rested_event, turn_reply}
 use Rattle.cy_model.specs.Marks.{Trace}
+use Rattle.cy_model.specs.Replies.{Replied, plain}
 use Rattle.cy_model.specs.Settling.{rested, settled}
 use Rattle.cy_proc.specs.LineChanges.{work_of}
 use Rattle.cy_proc.specs.Processors.{is_open_at, is_over_at}
@@ -27,17 +28,18 @@ abbrev pub SettlesEach : List Rule → LiveParts → LiveParts → Type 0
 SettlesEach rules old new = LivesAfter (settled old.limits rules old.line.moment) old new
 
 -- the reply is the wanted one, and the parts stand for the trace that follows
-pub record AnswersLive (wanted : Reply) (after : Trace) (r : Reply) (p : LiveParts) : Type 0 where
+pub record AnswersLive (wanted : Replied) (after : Trace) (r : Replied) (p : LiveParts) : Type 0 where
   pub reply : r ≡ wanted
   pub lives : Lives after p
 
 abbrev pub LivesAfterEvent : Event → List ℕ → LiveParts → Reply → LiveParts → Type 0
 LivesAfterEvent e b old r new =
-    (T : Trace) → Lives T old → AnswersLive (reply_to_event T e b) (rested_event old.limits old.line.moment T e b) r new
+    (T : Trace) → Lives T old
+    → AnswersLive (plain (reply_to_event T e b)) (rested_event old.limits old.line.moment T e b) (plain r) new
 
 -- a worker's turn at a moment
 abbrev pub AnswersTurn : LiveParts → List Rule → Trace → Trace → Reply → LiveParts → Type 0
-AnswersTurn old rules T S r new = AnswersLive (job_reply (owed_after T S)) (after_turn old.line.moment T S) r new
+AnswersTurn old rules T S r new = AnswersLive (turn_reply T S) (after_turn old.line.moment T S) (plain r) new
 
 abbrev pub LivesAfterTurn : List Rule → LiveParts → Reply → LiveParts → Type 0
 LivesAfterTurn rules old r new =
@@ -45,7 +47,8 @@ LivesAfterTurn rules old r new =
 
 abbrev pub LivesAfterAct : List Rule → Act → List ℕ → LiveParts → Reply → LiveParts → Type 0
 LivesAfterAct rules a b old r new =
-    (T : Trace) → Lives T old → AnswersLive (callback_reply T a) (after_callback old.limits rules old.line.moment T a b) r new
+    (T : Trace) → Lives T old
+    → AnswersLive (callback_reply old.limits T a) (after_callback old.limits rules old.line.moment T a b) (plain r) new
 
 -- limits and moment are as they were, and no chart waits to be kept where none did
 pub record KeepsEach (old new : LiveParts) : Type 0 where

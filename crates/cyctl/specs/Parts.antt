@@ -2,7 +2,7 @@
 use Rattle.std.specs.Prelude.{◌≡◌, ℕ, false, List, ◌++◌}
 use Rattle.cy_event.specs.declared.limits.Limits.{Limits}
 use Rattle.cy_event.specs.declared.table.ChartItem.{ChartItem}
-use Rattle.cy_model.specs.Folds.{output}
+use Rattle.cy_model.specs.Outputs.{output}
 use Rattle.cy_model.specs.Marks.{Trace}
 use Rattle.cy_proc.specs.Lines.{LineParts}
 use Rattle.cy_proc.specs.ProcessorAnswers.{Serves, ended_items}

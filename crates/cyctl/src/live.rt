@@ -1,13 +1,14 @@
 //! A connection that goes on: its line, the processor of its request, and the charts of the requests that have ended.
 //! Every entry after its admission comes at the last moment of the line.
-ghost use Rattle.std.specs.Prelude.{◌≡◌, ◌≤◌, ◌++◌, ◌∷◌, [], ℕ, drop, length, not, ◌&&◌, false, OnOk, IfOk};
+ghost use Rattle.std.specs.Prelude.{◌≡◌, ◌≤◌, ◌++◌, ◌∷◌, [], ℕ, drop, length, not, ◌&&◌, true, false, OnOk, OnErr, IfOk};
 ghost use Rattle.cy_event.specs.declared.head.TheConstants.{HEAD_ROOM, FIELD_ROOM};
 ghost use Rattle.cy_event.specs.declared.limits.TheConstants.{GREATEST_MOMENT};
-ghost use Rattle.cy_model.specs.Folds.{is_gone};
+ghost use Rattle.cy_model.specs.Outputs.{is_gone};
 ghost use Rattle.cy_model.specs.Marks.{Trace, opened};
+ghost use Rattle.cy_model.specs.Replies.{is_refusal};
 ghost use Rattle.cy_model.specs.Steps.{IsWithinBytes};
 ghost use Rattle.cy_proc.specs.LineChanges.{after_rest, is_due};
-ghost use Rattle.cy_proc.specs.Processors.{fresh_processor, is_open_at, is_over_at};
+ghost use Rattle.cy_proc.specs.Processors.{fresh_processor, is_open_at, is_over_at, over_charts};
 ghost use Rattle.cyctl.specs.Lives.{LeavesNoMoreWork, KeepsEach, RestsEach, SettlesEach, LivesAfterAct, LivesAfterEvent, LivesAfterTurn, charts_in};
 ghost use Rattle.cyctl.specs.Parts.{Lives};
 
@@ -129,7 +130,7 @@ impl Live {
         Ok(self.processor.run(&mut self.line, START))
     }
 
-    /// The callback that runs acts, and what follows is settled.
+    /// The callback that runs acts, and what follows is settled. A refused act is followed by nothing.
     pub fn act(&mut self, act: Act, bytes: &[u8], rules: &Mapper) -> Result<Reply, AllocError>
         requires within { IsWithinBytes act bytes.now }
         ensures answers { IfOk result (λ r. LivesAfterAct rules.now act bytes.now self.old r self.new) }
@@ -141,7 +142,9 @@ impl Live {
         let reply = self
             .processor
             .act(&mut self.line, START, &act, bytes, &mut []);
-        // A refused act leaves the request open, and while one is open nothing is settled.
+        if is_refusal(reply) {
+            return Ok(reply);
+        }
         self.settle(rules)?;
         Ok(reply)
     }
@@ -191,7 +194,7 @@ impl Live {
         !self.processor.is_open() && self.line.settle(START, &self.limits) == Standing::Due
     }
 
-    /// Keeps the chart of a request that is over, and clears the processor.
+    /// Keeps the chart of a request that is over, and clears the processor. A refused head has no chart.
     fn keep_chart(&mut self) -> Result<(), AllocError>
         ensures lives { (T : Trace) → Lives T self.old → Lives T self.new }
         ensures kept { OnOk result (is_over_at self.new.processor.stage ≡ false) }
@@ -199,12 +202,50 @@ impl Live {
         ensures limits { self.new.limits ≡ self.old.limits }
     {
         if self.processor.is_over() {
-            let chart = chart_of(self.alloc, &self.processor)?;
-            self.charts.push(chart)?;
+            push_over_chart(self.alloc, &mut self.charts, &self.processor)?;
             self.processor.clear();
         }
         Ok(())
     }
+}
+
+/// Appends the chart of the request that is over, if the head was that of one. Where memory runs out, nothing is appended.
+fn push_over_chart(
+    alloc: Global,
+    to: &mut Vec<Chart>,
+    processor: &Processor,
+) -> Result<(), AllocError>
+    requires over { is_over_at processor.now.stage ≡ true }
+    ensures appended { OnOk result (to.new.items ≡ to.old.items ++ over_charts processor.now) }
+    ensures unchanged { OnErr result (to.new.items ≡ to.old.items) }
+{
+    if !processor.has_request() {
+        return Ok(());
+    }
+    let chart = chart_of(alloc, processor)?;
+    to.push(chart)?;
+    Ok(())
+}
+
+/// Whether the act was refused, or could do nothing now.
+fn is_refusal(reply: Reply) -> bool
+    ensures { result ≡ is_refusal reply }
+{
+    matches!(
+        reply,
+        Reply::Again
+            | Reply::Illegal(_)
+            | Reply::Unsupported
+            | Reply::AlreadySet
+            | Reply::Committed
+            | Reply::BadValue
+            | Reply::TooMany(_)
+            | Reply::NotActive
+            | Reply::NoConn
+            | Reply::NoPass
+            | Reply::Ended
+            | Reply::Closed
+    )
 }
 
 /// The chart of a processor's request.

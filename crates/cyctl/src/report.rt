@@ -1,6 +1,7 @@
 //! The lines of a report.
-ghost use Rattle.std.specs.Prelude.{◌≡◌, ◌++◌, List, OnErr, OnOk, codes, decimal, flat_map};
+ghost use Rattle.std.specs.Prelude.{◌≡◌, ◌++◌, List, OnErr, OnOk, codes, decimal, flat_map, map};
 ghost use Rattle.cy_bytes.specs.Quoting.{quoted};
+ghost use Rattle.cy_model.specs.Replies.{plain};
 ghost use Rattle.cy_model.specs.Reports.{call_name, cause_name, cause_text, chart_item, chart_line, chart_lines, connection_text, line_end, reply_line, reply_lines, state_name};
 
 use crate::chart::Chart;
@@ -15,7 +16,7 @@ pub fn push_reply_lines(
     out: &mut Vec<u8>,
     replies: &[Reply],
 ) -> Result<(), AllocError>
-    ensures appended { OnOk result (out.new.items ≡ out.old.items ++ reply_lines 1 replies.now) }
+    ensures appended { OnOk result (out.new.items ≡ out.old.items ++ reply_lines 1 (map plain replies.now)) }
     ensures unchanged { OnErr result (out.new.items ≡ out.old.items) }
 {
     let mut text = Vec::new(alloc);
@@ -33,23 +34,23 @@ fn push_reply_line(
     number: usize,
     reply: Reply,
 ) -> Result<(), AllocError>
-    ensures { OnOk result (out.new.items ≡ out.old.items ++ reply_line number reply) }
+    ensures { OnOk result (out.new.items ≡ out.old.items ++ reply_line number (plain reply)) }
 {
     let line = format!(in alloc; "{number} {}\n", ReplyText(reply))?;
     out.extend_from_slice(line.as_bytes())
 }
 
-/// A reply, as a report names it.
+/// A reply without bytes, as a report names it.
 #[derive(Clone, Copy)]
 struct ReplyText(Reply);
 
 impl fmt::Display for ReplyText {
-    ghost use Rattle.std.specs.Prelude.{Some};
+    ghost use Rattle.std.specs.Prelude.{Some, []};
     ghost use Rattle.cy_model.specs.Reports.{reply_text};
 
-    ghost output = { λ reply. Some (reply_text reply.0) };
+    ghost output = { λ reply. Some (reply_text reply.0 []) };
 
-    #[tactic(auto, unfolding(cy_model::specs::Reports::reply_text))]
+    #[tactic(auto, unfolding(cy_model::specs::Reports::reply_text, cy_bytes::specs::Quoting::quoted))]
     fn fmt<W: fmt::Write>(&self, f: &mut fmt::Formatter<W>) -> fmt::Result {
         match self.0 {
             Reply::Done => f.write_str("Done"),
@@ -61,14 +62,48 @@ impl fmt::Display for ReplyText {
             Reply::Got(_) => f.write_str("Got \"\""),
             Reply::GotEnd => f.write_str("GotEnd"),
             Reply::Again => f.write_str("Again"),
-            Reply::Begun(Job::Service { part }) => write!(f, "Begun service {part}"),
+            Reply::Ready(true) => f.write_str("Ready true"),
+            Reply::Ready(false) => f.write_str("Ready false"),
+            Reply::Begun(job) => write!(f, "Begun {}", JobText(job)),
             Reply::Idle => f.write_str("Idle"),
             Reply::Illegal(state) => write!(f, "Illegal {}", state_name(state)),
+            Reply::Unsupported => f.write_str("Unsupported"),
+            Reply::AlreadySet => f.write_str("AlreadySet"),
+            Reply::Committed => f.write_str("Committed"),
             Reply::NotActive => f.write_str("NotActive"),
             Reply::NoConn => f.write_str("NoConn"),
+            Reply::NoPass => f.write_str("NoPass"),
+            Reply::Ended => f.write_str("Ended"),
             Reply::BadValue => f.write_str("BadValue"),
             Reply::TooMany(count) => write!(f, "TooMany {count}"),
             Reply::Closed => f.write_str("Closed"),
+        }
+    }
+}
+
+/// A callback, as a report names it.
+#[derive(Clone, Copy)]
+struct JobText(Job);
+
+impl fmt::Display for JobText {
+    ghost use Rattle.std.specs.Prelude.{Some};
+    ghost use Rattle.cy_model.specs.Reports.{job_text};
+
+    ghost output = { λ job. Some (job_text job.0) };
+
+    fn fmt<W: fmt::Write>(&self, f: &mut fmt::Formatter<W>) -> fmt::Result {
+        match self.0 {
+            Job::Service { part } => write!(f, "service {part}"),
+            Job::Again { part } => write!(f, "again {part}"),
+            Job::Resume => f.write_str("resume"),
+            Job::Readable => f.write_str("readable"),
+            Job::AllRead => f.write_str("allread"),
+            Job::Writable => f.write_str("writable"),
+            Job::ReadError => f.write_str("readerror"),
+            Job::WriteError => f.write_str("writeerror"),
+            Job::OnTimeout { listener, tag } => write!(f, "ontimeout {listener} {tag}"),
+            Job::OnError { listener, tag } => write!(f, "onerror {listener} {tag}"),
+            Job::OnComplete { listener, tag } => write!(f, "oncomplete {listener} {tag}"),
         }
     }
 }
@@ -248,23 +283,58 @@ mod tests {
     fn names_each_reply(rt: HostRuntime) -> Result<(), Fail> {
         let replies = [
             Reply::Done,
+            Reply::Wake,
             Reply::Entered,
             Reply::Full(8192),
             Reply::Taken(0),
+            Reply::Taken(18_446_744_073_709_551_615),
+            Reply::Got(0),
+            Reply::GotEnd,
             Reply::Again,
-            Reply::Begun(Job::Service { part: 3 }),
+            Reply::Ready(true),
+            Reply::Ready(false),
             Reply::Idle,
+            Reply::Illegal(State::CompletePending),
+            Reply::Unsupported,
+            Reply::AlreadySet,
+            Reply::Committed,
+            Reply::BadValue,
             Reply::NotActive,
             Reply::NoConn,
-            Reply::Taken(18_446_744_073_709_551_615),
-            Reply::Wake,
-            Reply::Illegal(State::CompletePending),
-            Reply::BadValue,
-            Reply::TooMany(64),
+            Reply::NoPass,
+            Reply::Ended,
             Reply::Closed,
+            Reply::TooMany(64),
         ];
         let lines =
-            b"1 Done\n2 Entered\n3 Full 8192\n4 Taken 0\n5 Again\n6 Begun service 3\n7 Idle\n8 NotActive\n9 NoConn\n10 Taken 18446744073709551615\n11 Wake\n12 Illegal COMPLETE_PENDING\n13 BadValue\n14 TooMany 64\n15 Closed\n";
+            b"1 Done\n2 Wake\n3 Entered\n4 Full 8192\n5 Taken 0\n6 Taken 18446744073709551615\n7 Got \"\"\n8 GotEnd\n9 Again\n10 Ready true\n11 Ready false\n12 Idle\n13 Illegal COMPLETE_PENDING\n14 Unsupported\n15 AlreadySet\n16 Committed\n17 BadValue\n18 NotActive\n19 NoConn\n20 NoPass\n21 Ended\n22 Closed\n23 TooMany 64\n";
+        let mut out = Vec::new(rt.alloc());
+        push_reply_lines(rt.alloc(), &mut out, &replies)?;
+        assert_eq!(rt; out.as_slice(), lines.as_slice());
+        Ok(())
+    }
+
+    #[test]
+    fn names_each_job(rt: HostRuntime) -> Result<(), Fail> {
+        let jobs = [
+            Job::Service { part: 3 },
+            Job::Again { part: 4_294_967_295 },
+            Job::Resume,
+            Job::Readable,
+            Job::AllRead,
+            Job::Writable,
+            Job::ReadError,
+            Job::WriteError,
+            Job::OnTimeout { listener: 0, tag: 255 },
+            Job::OnError { listener: 15, tag: 0 },
+            Job::OnComplete { listener: 1, tag: 2 },
+        ];
+        let lines =
+            b"1 Begun service 3\n2 Begun again 4294967295\n3 Begun resume\n4 Begun readable\n5 Begun allread\n6 Begun writable\n7 Begun readerror\n8 Begun writeerror\n9 Begun ontimeout 0 255\n10 Begun onerror 15 0\n11 Begun oncomplete 1 2\n";
+        let mut replies = Vec::new(rt.alloc());
+        for job in jobs {
+            replies.push(Reply::Begun(job))?;
+        }
         let mut out = Vec::new(rt.alloc());
         push_reply_lines(rt.alloc(), &mut out, &replies)?;
         assert_eq!(rt; out.as_slice(), lines.as_slice());

@@ -1,7 +1,8 @@
 //! A run: a connector takes a list of steps.
-ghost use Rattle.std.specs.Prelude.{◌≡◌, List, ◌∷◌, IfOk, reverse, None, false};
+ghost use Rattle.std.specs.Prelude.{◌≡◌, List, ◌∷◌, IfOk, map, reverse, None, false};
 ghost use Rattle.cy_event.specs.declared.steps.Step.{Step as AnyStep};
 ghost use Rattle.cy_model.specs.Connections.{replies};
+ghost use Rattle.cy_model.specs.Replies.{plain};
 ghost use Rattle.cy_script.specs.Conditions.{is_admit};
 ghost use Rattle.cyctl.specs.Connecting.{CanTake, CanTakeAll, StandsFor};
 ghost use Rattle.cyctl.specs.Running.{RunsTo};
@@ -21,7 +22,7 @@ pub struct Run {
 /// Takes the steps, of which one at most admits a connection.
 pub fn run_steps(alloc: Global, settings: Settings, steps: &[Step]) -> Result<Run, AllocError>
     requires { CanTakeAll steps.now }
-    ensures replies { IfOk result (λ run. run.replies.items ≡ replies settings.limits settings.rules (reverse steps.now)) }
+    ensures replies { IfOk result (λ run. map plain run.replies.items ≡ replies settings.limits settings.rules (reverse steps.now)) }
     ensures stands { IfOk result (λ run. StandsFor (reverse steps.now) run.connector) }
     ensures settings { IfOk result (λ run. run.connector.settings ≡ settings) }
 {

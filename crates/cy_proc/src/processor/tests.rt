@@ -283,11 +283,35 @@ fn a_service_runs_between_two_heads(rt: HostRuntime) -> Result<(), Fail> {
     // 76 bytes of the head, and the content.
     assert_eq!(rt; course.line.unsent_len(), 8_268);
     assert!(rt; course.processor.is_over());
+    assert!(rt; course.processor.has_request());
     assert_eq!(rt; course.processor.chart_len(), 2);
     assert!(rt; course.processor.chart_item(0) == ChartItem::One(Call::Run));
     assert!(rt; course.processor.chart_item(1) == ChartItem::One(Call::Return));
     assert_eq!(rt; run(&rt, &mut course), begun);
     assert!(rt; course.processor.is_open());
+    Ok(())
+}
+
+#[test]
+fn a_refused_head_is_no_request(rt: HostRuntime) -> Result<(), Fail> {
+    for head in [
+        b"GET /a\r\n\r\n".as_slice(),
+        b"HEAD /a HTTP/1.1\r\nHost: a\r\n\r\n",
+    ] {
+        let mut course = begin(rt.alloc(), 100)?;
+        assert!(rt; !course.processor.has_request());
+        tell(&rt, &mut course, Event::In, head);
+        let standing = course.line.settle(0, &course.processor.limits);
+        assert_eq!(rt; standing, Standing::Due);
+        course.processor.clear();
+        let _done = course.processor.open(&mut course.line, 0, &course.rules);
+        assert!(rt; course.processor.is_over());
+        assert!(rt; !course.processor.has_request());
+        assert!(rt; !course.processor.is_open());
+        assert_eq!(rt; course.processor.chart_len(), 0);
+        course.processor.clear();
+        assert!(rt; !course.processor.is_over());
+    }
     Ok(())
 }
 

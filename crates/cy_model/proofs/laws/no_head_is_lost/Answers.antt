@@ -1,4 +1,4 @@
-use Rattle.cy_model.proofs.Waiting as shown
+use Rattle.cy_model.proofs.LastHeads as shown
 use Rattle.cy_model.proofs.laws.no_head_is_lost.Goals as goal
 
 pub returns : goal.returns

@@ -1,4 +1,4 @@
-use Rattle.cy_model.proofs.Places as shown
+use Rattle.cy_model.proofs.OwnEntries as shown
 use Rattle.cy_model.proofs.laws.own_entries_decide.Goals as goal
 
 pub returns : goal.returns

@@ -16,7 +16,7 @@ take_up_head-requires-clause-within c =
 
 pub returns-in-Bad-clause-line : goal.returns-in-Bad-clause-line
 returns-in-Bad-clause-line c =
-    subst (λ (p : ProcessorParts). c.refuse.new.self ≡ line_with (due_at p.limits c.args.rules.now c.args.line.now) c.args.line.now) c.self.view_is
-    (c.refuse.ensures
+    subst (λ (p : ProcessorParts). c.refuse.new.line ≡ line_with (due_at p.limits c.args.rules.now c.args.line.now) c.args.line.now) c.self.view_is
+    (c.refuse.ensures.line
     ∙ ap (after_refusal 400 false) c.read_head.ensures.same
     ∙ sym (bad_line c.self.inside.limits c.args.rules.now (c.args.line.now.begun + 1) (front_at c.self.inside.limits c.args.line.now) c.args.line.now (sym c.in-Bad.ensures.front)))

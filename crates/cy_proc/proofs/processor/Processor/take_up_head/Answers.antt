@@ -6,9 +6,9 @@ use Rattle.cy_proc.proofs.processor.Processor.take_up_head.Goals as goal
 
 pub returns-in-TurnedAway-clause-line : goal.returns-in-TurnedAway-clause-line
 returns-in-TurnedAway-clause-line c =
-    subst (λ (p : ProcessorParts). c.refuse.new.self ≡ line_with (due_of_head p.limits c.args.rules.now c.args.size p.table.head c.args.line.now) c.args.line.now) c.self.view_is
-    (turned_from c.self.inside.limits c.args.rules.now c.args.size c.in-TurnedAway.status c.eq.result c.self.inside.table c.judge.new.table c.args.line.now c.refuse.new.self
-    c.in-TurnedAway.ensures.verdict c.in-TurnedAway.ensures.table (cc) c.refuse.ensures)
+    subst (λ (p : ProcessorParts). c.refuse.new.line ≡ line_with (due_of_head p.limits c.args.rules.now c.args.size p.table.head c.args.line.now) c.args.line.now) c.self.view_is
+    (turned_from c.self.inside.limits c.args.rules.now c.args.size c.in-TurnedAway.status c.eq-to_head.result c.self.inside.table c.judge.new.table c.args.line.now c.refuse.new.line
+    c.in-TurnedAway.ensures.verdict c.in-TurnedAway.ensures.table (cc) c.refuse.ensures.line)
 
 pub returns-in-Unserved-clause-line : goal.returns-in-Unserved-clause-line
 returns-in-Unserved-clause-line c =

@@ -1,5 +1,5 @@
-use Rattle.std.proofs.Common.{sym}
-use Rattle.cyctl.proofs.Lives.{act_alive, act_lives}
+use Rattle.std.proofs.Common.{sym, ◌∙◌}
+use Rattle.cyctl.proofs.Lives.{act_alive, act_lives, refused_lives}
 use Rattle.cyctl.proofs.live.Live.act.Goals as goal
 
 pub returns-clause-answers : goal.returns-clause-answers
@@ -10,3 +10,8 @@ returns-clause-answers c =
 
 pub invariant_of-self : goal.invariant_of-self
 invariant_of-self c = act_alive c.args.act c.args.bytes.now _ c.act-reply.result c.act-reply.new.line c.act-reply.new.self c.self.invariant (sym c.if-not-is_open.ensures) c.act-reply.ensures.limits c.act-reply.ensures.answers
+
+pub returns-then-is_refusal-clause-answers : goal.returns-then-is_refusal-clause-answers
+returns-then-is_refusal-clause-answers c =
+    rw (← c.self.view_is) (λ T s.
+    refused_lives c.args.rules.now c.args.act c.args.bytes.now c.act-reply.result T _ c.act-reply.new.line c.act-reply.new.self (sym c.is_refusal.ensures ∙ c.if-is_refusal.true) (sym c.if-not-is_open.ensures) s c.act-reply.ensures.moment c.act-reply.ensures.limits c.act-reply.ensures.answers)
