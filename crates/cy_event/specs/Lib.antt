@@ -6,6 +6,10 @@ pub mod Dates
 pub mod Answers
 pub mod AnswerModes
 pub mod Answering
+pub mod Pieces
+pub mod AnswerBytes
+pub mod Callbacks
+pub mod ReadyListeners
 pub mod Targets
 pub mod Framings
 pub mod RequestHeads

@@ -56,11 +56,32 @@ pub enum Act {
     Return,
 }
 
-/// A callback that a worker begins.
+/// A callback that a worker begins (Servlet 3.1, sections 2.3.3.3, 3.7 and 5.7). Listeners are numbered from 0 in the
+/// order in which they were added, and each has a tag.
 #[derive(Clone, Copy, Debug, PartialEq, Eq)]
 pub enum Job {
     /// The component of this number serves the request.
     Service { part: u32 },
+    /// The component of this number serves the request that was dispatched to it.
+    Again { part: u32 },
+    /// The callback that waited for the socket goes on.
+    Resume,
+    /// The read listener hears that content waits.
+    Readable,
+    /// The read listener hears that all content was read.
+    AllRead,
+    /// The write listener hears that content would be taken.
+    Writable,
+    /// The read listener hears of a fault.
+    ReadError,
+    /// The write listener hears of a fault.
+    WriteError,
+    /// A listener hears that the timeout of asynchronous processing has passed.
+    OnTimeout { listener: u32, tag: u8 },
+    /// A listener hears of a fault.
+    OnError { listener: u32, tag: u8 },
+    /// A listener hears that the request completes.
+    OnComplete { listener: u32, tag: u8 },
 }
 
 /// What a step is answered.
@@ -82,22 +103,34 @@ pub enum Reply {
     GotEnd,
     /// No byte can be taken or given now.
     Again,
+    /// Whether a byte could be read or written now.
+    Ready(bool),
     /// A callback begins.
     Begun(Job),
     /// No callback is owed.
     Idle,
     /// The state table has no row for the call in this state.
     Illegal(State),
+    /// The rule that serves the request has no asynchronous support.
+    Unsupported,
+    /// The listener is set already.
+    AlreadySet,
+    /// The head of the answer is out already.
+    Committed,
+    /// A value is outside what may be said.
+    BadValue,
     /// No callback runs that could act.
     NotActive,
     /// No connection of that number was admitted.
     NoConn,
-    /// A value is outside what may be said.
-    BadValue,
-    /// More than this many would be.
-    TooMany(u64),
+    /// The request was never processed asynchronously.
+    NoPass,
+    /// The request has ended.
+    Ended,
     /// The connection is closed, or closed to this.
     Closed,
+    /// More than this many would be.
+    TooMany(u64),
 }
 
 /// Why a connection is closed. The first cause stays.

@@ -1,4 +1,16 @@
 pub mod Causes
 pub mod Reads
 pub mod Writes
+pub mod LinkReads
+pub mod LinkWrites
+pub mod Doors
+pub mod Accepts
+pub mod Polls
+pub mod Starts
+pub mod Moments
+pub mod Clocks
+pub mod Items
 pub mod Memory
+pub mod MemoryLinks
+pub mod MemoryDoors
+pub mod MemoryPolls

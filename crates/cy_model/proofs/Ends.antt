@@ -11,8 +11,8 @@ use Rattle.cy_event.specs.declared.steps.Job.TheVariants as job
 use Rattle.cy_map.specs.declared.rule.Rule.{Rule}
 use Rattle.cy_model.specs.Entries.{is_closed_to, return_marks, trace_of}
 use Rattle.cy_model.specs.Folds.{calls, cause_of, earlier, ended_charts, has_ended, is_open, output, requests_of, running}
-use Rattle.cy_model.specs.Laws.{RefusalsAreTold, RequestsEndOnce, TellsRefusal}
-use Rattle.cy_model.specs.Marks.{began, error_answer, TakenUp, Trace}
+use Rattle.cy_model.specs.Laws.{RefusalsAreTold, RequestsEndOnce, TakeTurns, TellsRefusal}
+use Rattle.cy_model.specs.Marks.{began, error_answer, over, TakenUp, Trace}
 use Rattle.cy_model.specs.Settling.{due_of, with_marks}
 use Rattle.cy_model.specs.Verdicts.{not_found_status}
 use Rattle.cy_model.proofs.Histories.{owed_in}
@@ -24,6 +24,7 @@ one_more xs x = length-append xs (x ∷ [])
 
 -- what is known of the ends of requests
 record Ends (T : Trace) : Type 0 where
+  turns : TakeTurns T
   closed : is_open T ≡ false → (running T ≡ None) × (length (ended_charts T) ≡ length (requests_of T))
   goes_on : is_open T ≡ true → length (ended_charts T) + 1 ≡ length (requests_of T)
 
@@ -40,50 +41,54 @@ runs_open T j k e =
 
 ends_kept : (limits : Limits) (rules : List Rule) → IsKept limits rules Ends
 ends_kept limits rules = record {
-  opens = λ t T k. record { closed = k.closed; goes_on = k.goes_on };
-  ends = λ t T k. record { closed = k.closed; goes_on = k.goes_on };
-  comes = λ t b T taken k. record { closed = k.closed; goes_on = k.goes_on };
-  sends = λ t n T k. record { closed = k.closed; goes_on = k.goes_on };
-  input_ends = λ t T may k. record { closed = k.closed; goes_on = k.goes_on };
-  refuses = λ t status to_head T may due k. record { closed = k.closed; goes_on = k.goes_on };
+  opens = λ t T k. record { turns = k.turns; closed = k.closed; goes_on = k.goes_on };
+  ends = λ t T k. record { turns = k.turns; closed = k.closed; goes_on = k.goes_on };
+  comes = λ t b T taken k. record { turns = k.turns; closed = k.closed; goes_on = k.goes_on };
+  sends = λ t n T k. record { turns = k.turns; closed = k.closed; goes_on = k.goes_on };
+  input_ends = λ t T may k. record { turns = k.turns; closed = k.closed; goes_on = k.goes_on };
+  refuses = λ t status to_head T may due k. record { turns = k.turns; closed = λ o. (refl, (k.closed o).1); goes_on = k.goes_on };
   finds_none = λ t r T may at due k.
       let B : Trace = (t, error_answer not_found_status) ∷ (t, began r) ∷ T in
       let before = (k.closed (may_begin-parts T may).0).1 in
       let counted : length (ended_charts T ++ [] ∷ []) ≡ length (requests_of T ++ r ∷ [])
       = one_more (ended_charts T) [] ∙ ap (λ (n : ℕ). n + 1) before ∙ sym (one_more (requests_of T) r) in
+      let turns : TakeTurns ((t, over) ∷ B) = (refl, ((may_begin-parts T may).0, k.turns)) in
       over_keeps Ends t r.keep None B
-      (record { closed = λ o. (refl, counted); goes_on = λ o. cc })
-      (record { closed = λ o. (refl, counted); goes_on = λ o. cc });
+      (record { turns = turns; closed = λ o. (refl, counted); goes_on = λ o. cc })
+      (record { turns = turns; closed = λ o. (refl, counted); goes_on = λ o. cc });
   begins = λ t r T may at due k.
       let before = (k.closed (may_begin-parts T may).0).1 in
-      record { closed = λ o. cc; goes_on = λ o. ap (λ (n : ℕ). n + 1) before ∙ sym (one_more (requests_of T) r) };
+      record { turns = ((may_begin-parts T may).0, k.turns); closed = λ o. cc; goes_on = λ o. ap (λ (n : ℕ). n + 1) before ∙ sym (one_more (requests_of T) r) };
   serves = λ t part T e k.
       let open_now = (owed_in T (job.Service part) e).0 in
-      record { closed = λ o. absurd (both (is_open T) open_now o); goes_on = k.goes_on };
-  puts = λ t b T k. record { closed = k.closed; goes_on = k.goes_on };
+      record { turns = k.turns; closed = λ o. absurd (both (is_open T) open_now o); goes_on = k.goes_on };
+  puts = λ t b T k. record { turns = k.turns; closed = k.closed; goes_on = k.goes_on };
   returns = λ t j T e k.
       let open_now = runs_open T j k e in
       let counted = one_more (ended_charts T) (calls T ++ call.Return ∷ []) ∙ k.goes_on open_now in
       return_keeps Ends t T
-      (record { closed = λ o. absurd (both (is_open T) open_now o); goes_on = k.goes_on })
-      (record { closed = λ o. (refl, counted); goes_on = λ o. cc })
-      (record { closed = λ o. (refl, counted); goes_on = λ o. cc });
+      (record { turns = k.turns; closed = λ o. absurd (both (is_open T) open_now o); goes_on = k.goes_on })
+      (record { turns = (open_now, k.turns); closed = λ o. (refl, counted); goes_on = λ o. cc })
+      (record { turns = (open_now, k.turns); closed = λ o. (refl, counted); goes_on = λ o. cc });
 }
   where
     both : (v : Bool) → v ≡ true → v ≡ false → ⊥
     both v p q = cc
 
 nothing_ends : Ends []
-nothing_ends = record { closed = λ o. (refl, refl); goes_on = λ o. cc }
+nothing_ends = record { turns = tt; closed = λ o. (refl, refl); goes_on = λ o. cc }
 
 pub requests_end_once : RequestsEndOnce
 requests_end_once limits rules entries =
     let T = trace_of limits rules entries in
     let k = trace_keeps Ends limits rules (ends_kept limits rules) nothing_ends entries in
-    elim (is_open T) as (λ v. is_open T ≡ v → length (cond v (ended_charts T ++ calls T ∷ []) (ended_charts T)) ≡ length (requests_of T)) [
-      | true ↦ λ o. one_more (ended_charts T) (calls T) ∙ k.goes_on o
-      | false ↦ λ o. (k.closed o).1
-    ] refl
+    record {
+      turns = k.turns;
+      charts = elim (is_open T) as (λ v. is_open T ≡ v → length (cond v (ended_charts T ++ calls T ∷ []) (ended_charts T)) ≡ length (requests_of T)) [
+        | true ↦ λ o. one_more (ended_charts T) (calls T) ∙ k.goes_on o
+        | false ↦ λ o. (k.closed o).1
+      ] refl;
+    }
 
 -- ---- refusals
 

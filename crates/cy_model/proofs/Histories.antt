@@ -96,7 +96,7 @@ charted_kept limits rules = record {
   comes = λ t b T taken c. record { past = c.past; legal = c.legal; goes_on = c.goes_on; leads = c.leads; runs = c.runs };
   sends = λ t n T c. record { past = c.past; legal = c.legal; goes_on = c.goes_on; leads = c.leads; runs = c.runs };
   input_ends = λ t T may c. record { past = c.past; legal = c.legal; goes_on = c.goes_on; leads = c.leads; runs = c.runs };
-  refuses = λ t status to_head T may due c. record { past = c.past; legal = c.legal; goes_on = c.goes_on; leads = c.leads; runs = c.runs };
+  refuses = λ t status to_head T may due c. record { past = c.past; legal = tt; goes_on = λ o. refl; leads = refl; runs = λ j e. cc };
   finds_none = λ t r T may at due c. over_charted t ((t, error_answer not_found_status) ∷ (t, began r) ∷ T) r.keep None c.past tt refl refl;
   begins = λ t r T may at due c. record { past = c.past; legal = tt; goes_on = λ o. refl; leads = refl; runs = λ j e. cc };
   serves = λ t part T e c. let owed = owed_in T (job.Service part) e in served_charted t part T owed.0 owed.1 c;

@@ -14,3 +14,5 @@ pub mod Growth
 pub mod Turns
 pub mod Ends
 pub mod Judged
+pub mod OwnEntries
+pub mod Refusals

@@ -1,5 +1,5 @@
 -- What the marks of every entry and every move keep holds of the trace of any entries.
-use Rattle.std.proofs.Common.{◌≡◌, ℕ, ◌+◌, Bool, true, false, ◌||◌, cond, List, [], ◌∷◌, take, Option, Some, None, is_some, refl, sym, subst, if◌then◌else◌, ◌==◌}
+use Rattle.std.proofs.Common.{◌≡◌, ℕ, ◌+◌, Bool, true, false, ◌||◌, ◌&&◌, cond, ap, ◌∙◌, is_none, List, [], ◌∷◌, take, Option, Some, None, is_some, refl, sym, subst, if◌then◌else◌, ◌==◌}
 use Rattle.cy_event.specs.declared.limits.Limits.{Limits}
 use Rattle.cy_event.specs.declared.steps.Act.{Act}
 use Rattle.cy_event.specs.declared.steps.Act.TheVariants as act
@@ -10,12 +10,14 @@ use Rattle.cy_event.specs.declared.steps.Event.{Event}
 use Rattle.cy_event.specs.declared.steps.Event.TheVariants as event
 use Rattle.cy_event.specs.declared.steps.Job.{Job}
 use Rattle.cy_event.specs.declared.steps.Job.TheVariants as job
+use Rattle.cy_event.specs.declared.steps.State.{State}
+use Rattle.cy_event.specs.declared.steps.State.TheVariants as state
 use Rattle.cy_event.specs.Heads.{found}
 use Rattle.cy_event.specs.Table.{is_end, row}
 use Rattle.cy_map.specs.declared.rule.Rule.{Rule}
-use Rattle.cy_model.specs.Entries.{Entry, opening, tick, on_event, on_run, on_act, after, after_act, after_callback, act_marks, end_marks, ended_count, event_mark, is_closed_act, is_closed_to, is_full, job_marks, open_act_marks, owed_after, return_marks, room, sent_of, trace_of, write_takes}
-use Rattle.cy_model.specs.Folds.{answer_of, begun_count, cause_of, consumed, is_gone, is_kept, running, state_of}
-use Rattle.cy_model.specs.Jobs.{next_job}
+use Rattle.cy_model.specs.Entries.{Entry, opening, tick, on_event, on_run, on_act, after, after_act, after_callback, act_marks, end_marks, ended_count, event_marks, is_closed_act, is_closed_to, is_full, job_marks, open_act_marks, owed_after, return_marks, room, sent_of, trace_of, write_takes}
+use Rattle.cy_model.specs.Folds.{answer_of, begun_count, cause_of, consumed, is_gone, is_kept, is_open, is_served, part_of, running, state_of}
+use Rattle.cy_model.specs.Jobs.{job_in, next_job}
 use Rattle.cy_model.specs.Marks.{Mark, opened, ended, came, sent, back, began, refused, called, over, started, put, error_answer, caused, TakenUp, Trace}
 use Rattle.cy_model.specs.Settling.{Due, front_of, settled, with_marks, may_begin, end_marks_by, nothing, refusal, not_found, request, due_move, due_of, head_move}
 use Rattle.cy_model.specs.Verdicts.{not_found_status}
@@ -74,6 +76,18 @@ return_keeps P t T goes_on ends closes =
       | false ↦ goes_on
     ]
 
+-- what is owed is a service
+job_in-service : (s : State) (served_now : Bool) (part : ℕ) (j : Job) → job_in s served_now part ≡ Some j → (n : ℕ) × (j ≡ job.Service n)
+job_in-service state.Dispatched false part j e = (part, cc)
+job_in-service s served_now part j e = cc
+
+service_owed : (T : Trace) (j : Job) → next_job T ≡ Some j → (part : ℕ) × (j ≡ job.Service part)
+service_owed T j e =
+    elim (is_open T && is_none (running T)) as (λ v. cond v (job_in (state_of T) (is_served T) (part_of T)) None ≡ Some j → (part : ℕ) × (j ≡ job.Service part)) [
+      | true ↦ λ q. job_in-service (state_of T) (is_served T) (part_of T) j q
+      | false ↦ λ q. cc
+    ] e
+
 module _ (P : Trace → Type 0) (limits : Limits) (rules : List Rule) (k : IsKept limits rules P) where
   due_keeps : (t : ℕ) (T : Trace) (ms : List Mark) (d : Due) → due_of limits rules T ≡ d → may_begin T ≡ true
       → DueTakes (consumed T) (front_of limits T) d → due_move d ≡ Some ms → P T → P (with_marks t ms T)
@@ -97,23 +111,25 @@ module _ (P : Trace → Type 0) (limits : Limits) (rules : List Rule) (k : IsKep
   settles : (t : ℕ) (T : Trace) → P T → P (settled limits rules t T)
   settles t T p = settled-keeps-by limits rules t P (record { input_ends = k.input_ends; heads = head_keeps }) T p
 
-  mark_keeps : (t : ℕ) (T : Trace) (e : Event) (b : List ℕ) → is_closed_to e T ≡ false → P T → P ((t, event_mark T e b) ∷ T)
+  mark_keeps : (t : ℕ) (T : Trace) (e : Event) (b : List ℕ) → is_closed_to e T ≡ false → P T → P (with_marks t (event_marks T e b) T)
   mark_keeps t T event.In b taken p = k.comes t (take (room T) b) T taken p
   mark_keeps t T event.End b taken p = k.ends t T p
   mark_keeps t T (event.Took n) b taken p = k.sends t (sent_of n T) T p
 
-  event_keeps : (t : ℕ) (T : Trace) (e : Event) (b : List ℕ) → P T → P (if is_closed_to e T then T else settled limits rules t ((t, event_mark T e b) ∷ T))
+  event_keeps : (t : ℕ) (T : Trace) (e : Event) (b : List ℕ) → P T → P (if is_closed_to e T then T else settled limits rules t (with_marks t (event_marks T e b) T))
   event_keeps t T e b p =
-      elim (is_closed_to e T) as (λ v. is_closed_to e T ≡ v → P (cond v T (settled limits rules t ((t, event_mark T e b) ∷ T)))) [
+      elim (is_closed_to e T) as (λ v. is_closed_to e T ≡ v → P (cond v T (settled limits rules t (with_marks t (event_marks T e b) T)))) [
         | true ↦ λ closed. p
-        | false ↦ λ taken. settles t ((t, event_mark T e b) ∷ T) (mark_keeps t T e b taken p)
+        | false ↦ λ taken. settles t (with_marks t (event_marks T e b) T) (mark_keeps t T e b taken p)
       ] refl
 
   job_keeps : (t : ℕ) (T : Trace) (o : Option Job) → next_job T ≡ o → P T → P (with_marks t (job_marks o) T)
   job_keeps t T None e p = p
-  job_keeps t T (Some (job.Service part)) e p = k.serves t part T e p
+  job_keeps t T (Some j) e p =
+      let service = service_owed T j e in
+      subst (λ (i : Job). P (with_marks t (job_marks (Some i)) T)) (sym service.1) (k.serves t service.0 T (e ∙ ap Some service.1) p)
 
-  open_act_keeps : (t : ℕ) (j : Job) (T : Trace) (a : Act) (b : List ℕ) → running T ≡ Some j → P T → P (after_act limits rules t T (open_act_marks T a b))
+  open_act_keeps : (t : ℕ) (j : Job) (T : Trace) (a : Act) (b : List ℕ) → running T ≡ Some j → P T → P (after_act limits rules t T (open_act_marks limits T a b))
   open_act_keeps t j T (act.Write n) b e p =
       let taken = take (write_takes (answer_of T) n) b in
       elim (is_full (answer_of T) n) as (λ v. P (after_act limits rules t T (cond v None (Some (put taken ∷ []))))) [
@@ -122,16 +138,16 @@ module _ (P : Trace → Type 0) (limits : Limits) (rules : List Rule) (k : IsKep
       ]
   open_act_keeps t j T act.Return b e p = settles t (with_marks t (return_marks T) T) (k.returns t j T e p)
 
-  act_keeps : (t : ℕ) (j : Job) (T : Trace) (a : Act) (b : List ℕ) → running T ≡ Some j → P T → P (after_act limits rules t T (act_marks T a b))
+  act_keeps : (t : ℕ) (j : Job) (T : Trace) (a : Act) (b : List ℕ) → running T ≡ Some j → P T → P (after_act limits rules t T (act_marks limits T a b))
   act_keeps t j T a b e p =
-      elim (is_closed_act a T) as (λ v. P (after_act limits rules t T (cond v None (open_act_marks T a b)))) [
+      elim (is_closed_act a T) as (λ v. P (after_act limits rules t T (cond v None (open_act_marks limits T a b)))) [
         | true ↦ p
         | false ↦ open_act_keeps t j T a b e p
       ]
 
   callback_keeps : (t : ℕ) (T : Trace) (a : Act) (b : List ℕ) → P T → P (after_callback limits rules t T a b)
   callback_keeps t T a b p =
-      elim (running T) as (λ o. running T ≡ o → P (if is_some o then after_act limits rules t T (act_marks T a b) else T)) [
+      elim (running T) as (λ o. running T ≡ o → P (if is_some o then after_act limits rules t T (act_marks limits T a b) else T)) [
         | None ↦ λ e. p
         | Some j ↦ λ e. act_keeps t j T a b e p
       ] refl

@@ -15,6 +15,7 @@ use Rattle.cy_model.specs.Folds.{begun_count, cause_of, consumed, is_gone, is_op
 use Rattle.cy_model.specs.Jobs.{job_by, next_job}
 use Rattle.cy_model.specs.Laws.{TurnBegins, TurnsServe}
 use Rattle.cy_model.specs.Marks.{TakenUp, Trace, began, error_answer}
+use Rattle.cy_model.specs.Replies.{plain}
 use Rattle.cy_model.specs.Settling.{due_by_front, due_by_verdict, due_of, front_of, request, settled, taken_up_by, with_marks}
 use Rattle.cy_model.specs.Verdicts.{turned_away, unserved, served, verdict_of, not_found_status}
 use Rattle.cy_model.proofs.Gone.{no_move}
@@ -66,7 +67,7 @@ serves_kept limits rules = record {
   comes = λ t b T taken c. record { fresh = c.fresh; mapped = c.mapped };
   sends = λ t n T c. record { fresh = c.fresh; mapped = c.mapped };
   input_ends = λ t T end c. record { fresh = c.fresh; mapped = c.mapped };
-  refuses = λ t status to_head T may due c. record { fresh = c.fresh; mapped = c.mapped };
+  refuses = λ t status to_head T may due c. record { fresh = λ o s. (refl, refl); mapped = λ r o e. cc };
   finds_none = λ t r T may at due c.
       over_keeps (IsToServe rules) t r.keep None ((t, error_answer not_found_status) ∷ (t, began r) ∷ T)
       (closed_serves rules _ refl) (closed_serves rules _ refl);
@@ -109,7 +110,7 @@ turn_begins limits rules now T head m o job_now =
       rule = m.rule;
       framing = m.framing;
       mapped = m.verdict;
-      reply = ap (λ (v : Bool). if v then reply.Closed else job_reply (owed_after T S)) alive ∙ ap job_reply owed;
+      reply = ap (λ (v : Bool). if v then plain reply.Closed else plain (job_reply (owed_after T S))) alive ∙ ap (λ (j : Option Job). plain (job_reply j)) owed;
       runs = ap (λ (v : Bool). running (if v then T else after_turn now T S)) alive ∙ ap (λ (j : Option Job). running (with_marks now (job_marks j) S)) owed;
     }
 

@@ -6,15 +6,15 @@ use Rattle.cy_event.specs.declared.steps.CloseCause.{CloseCause}
 use Rattle.cy_event.specs.declared.steps.CloseCause.TheVariants.{InputEnd, LastAnswer, Refused}
 use Rattle.cy_event.specs.declared.steps.Event.TheVariants as event
 use Rattle.cy_event.specs.declared.steps.Job.{Job}
-use Rattle.cy_event.specs.declared.steps.Job.TheVariants as job
+use Rattle.cy_event.specs.Callbacks.{makes_calls}
 use Rattle.cy_event.specs.Heads.{Front, awaited, front_length}
 use Rattle.cy_map.specs.declared.rule.Rule.{Rule}
 use Rattle.cy_head.proofs.HeadFronts.{heads_are_awaited}
-use Rattle.cy_model.specs.Entries.{Entry, opening, tick, on_event, on_run, on_act, act_marks, after, after_act, ended_count, event_mark, is_closed_to, job_marks, owed_after, trace_of}
+use Rattle.cy_model.specs.Entries.{Entry, opening, tick, on_event, on_run, on_act, act_marks, after, after_act, ended_count, event_marks, is_closed_to, job_marks, owed_after, run_marks, trace_of}
 use Rattle.cy_model.specs.Folds.{cause_of, earlier, has_ended, is_gone, is_open, running, unsent}
 use Rattle.cy_model.specs.Jobs.{next_job}
 use Rattle.cy_model.specs.Laws.{NoEndWaits, NoHeadIsLost, NoHeadWaits}
-use Rattle.cy_model.specs.Marks.{Mark, opened, began, error_answer, Trace}
+use Rattle.cy_model.specs.Marks.{Mark, opened, began, error_answer, started, Trace}
 use Rattle.cy_model.specs.Settling.{begin_bound, due_by_front, due_move, first_move, front_of, is_awaited, may_begin, next_move, settled, with_marks}
 use Rattle.cy_model.specs.Verdicts.{not_found_status}
 use Rattle.cy_model.proofs.Gone.{still}
@@ -42,9 +42,16 @@ module _ (limits : Limits) (rules : List Rule) where
   -- a service that is owed belongs to an open request
   job_rests : (t : ℕ) (T : Trace) (o : Option Job) → next_job T ≡ o → Rests T → Rests (with_marks t (job_marks o) T)
   job_rests t T None e rests = rests
-  job_rests t T (Some (job.Service part)) e rests =
-      let R : Trace = with_marks t (job_marks (Some (job.Service part))) T in
-      still limits rules R (open_may_not_begin R (owed_in T (job.Service part) e).0)
+  job_rests t T (Some j) e rests =
+      let open_now = (owed_in T j e).0 in
+      elim (makes_calls j) as (λ v. Rests (with_marks t (started j ∷ run_marks v) T)) [
+        | true ↦
+            let R : Trace = with_marks t (started j ∷ run_marks true) T in
+            still limits rules R (open_may_not_begin R open_now)
+        | false ↦
+            let R : Trace = with_marks t (started j ∷ run_marks false) T in
+            still limits rules R (open_may_not_begin R open_now)
+      ]
 
   turn_rests : (t : ℕ) (T : Trace) → Rests (with_marks t (job_marks (owed_after T (settled limits rules t T))) (settled limits rules t T))
   turn_rests t T =
@@ -64,10 +71,10 @@ module _ (limits : Limits) (rules : List Rule) where
   entry_rests t T opening rests = settled-rests limits rules t ((t, opened) ∷ T)
   entry_rests t T tick rests = settled-rests limits rules t T
   entry_rests t T (on_event e b) rests =
-      either_way Rests (is_closed_to e T) T _ rests (settled-rests limits rules t ((t, event_mark T e b) ∷ T))
+      either_way Rests (is_closed_to e T) T _ rests (settled-rests limits rules t (with_marks t (event_marks T e b) T))
   entry_rests t T on_run rests = either_way Rests (is_gone T) T _ rests (turn_rests t T)
   entry_rests t T (on_act a b) rests =
-      either_way Rests (is_gone T) T _ rests (either_way Rests (is_some (running T)) _ T (act_rests t T (act_marks T a b) rests) rests)
+      either_way Rests (is_gone T) T _ rests (either_way Rests (is_some (running T)) _ T (act_rests t T (act_marks limits T a b) rests) rests)
 
   pub entries_rest : 1 ≤ limits.max_head → (entries : List (ℕ × Entry)) → Rests (trace_of limits rules entries)
   entries_rest long [] = nothing_rests long

@@ -1,13 +1,13 @@
 -- The steps of a connector, and what each of its connections sees of them: its own entries.
 use Rattle.std.specs.Prelude.{ℕ, Bool, not, List, [], ◌∷◌, ◌++◌, count_by, map, Option, Some, None, nat_lt, ◌==◌, if◌then◌else◌}
 use Rattle.cy_event.specs.declared.limits.Limits.{Limits}
-use Rattle.cy_event.specs.declared.steps.Reply.{Reply}
 use Rattle.cy_event.specs.declared.steps.Reply.TheVariants as reply
 use Rattle.cy_event.specs.declared.steps.Step.{Step}
 use Rattle.cy_event.specs.declared.steps.Step.TheVariants as step
 use Rattle.cy_map.specs.declared.rule.Rule.{Rule}
 use Rattle.cy_model.specs.Entries.{Entry, opening, tick, on_event, on_run, on_act, trace_of, reply_to}
 use Rattle.cy_model.specs.Folds.{is_gone}
+use Rattle.cy_model.specs.Replies.{Replied, plain}
 
 -- what a step is about: the clock, an admission, or one connection
 pub data Kind : Type 0 where
@@ -77,19 +77,19 @@ own_entries limits rules w c = find_own c (connections limits rules w)
 
 -- ---- replies
 
-abbrev pub own_reply : Limits → List Rule → ℕ → Option (List (ℕ × Entry)) → Entry → Reply
-own_reply limits rules now None e = reply.NoConn
+abbrev pub own_reply : Limits → List Rule → ℕ → Option (List (ℕ × Entry)) → Entry → Replied
+own_reply limits rules now None e = plain reply.NoConn
 own_reply limits rules now (Some entries) e = reply_to limits rules now (trace_of limits rules entries) e
 
 -- the reply to a step of a kind at a moment
-abbrev pub reply_by : Limits → List Rule → Kind → ℕ → List History → Reply
-reply_by limits rules (clock t) now hs = reply.Done
+abbrev pub reply_by : Limits → List Rule → Kind → ℕ → List History → Replied
+reply_by limits rules (clock t) now hs = plain reply.Done
 reply_by limits rules (admission c) now hs =
-    if admits limits rules hs then reply.Entered else reply.Full (counted limits rules hs)
+    plain (if admits limits rules hs then reply.Entered else reply.Full (counted limits rules hs))
 reply_by limits rules (own c e) now hs = own_reply limits rules now (find_own c hs) e
 
 -- the replies to all steps, the first first
-abbrev pub replies : Limits → List Rule → List Step → List Reply
+abbrev pub replies : Limits → List Rule → List Step → List Replied
 replies limits rules [] = []
 replies limits rules (s ∷ w) =
     replies limits rules w

@@ -8,15 +8,16 @@ use Rattle.cy_event.specs.declared.steps.CloseCause.{CloseCause}
 use Rattle.cy_event.specs.declared.steps.Event.{Event}
 use Rattle.cy_event.specs.declared.steps.Event.TheVariants as event
 use Rattle.cy_event.specs.declared.steps.Job.{Job}
-use Rattle.cy_event.specs.declared.steps.Job.TheVariants as job
 use Rattle.cy_event.specs.declared.steps.Reply.{Reply}
 use Rattle.cy_event.specs.declared.steps.Reply.TheVariants as reply
 use Rattle.cy_event.specs.Answers.{Answer, takes}
+use Rattle.cy_event.specs.Callbacks.{makes_calls}
 use Rattle.cy_map.specs.declared.rule.Rule.{Rule}
 use Rattle.cy_event.specs.Table.{row, is_end}
 use Rattle.cy_model.specs.Folds.{answer_of, bytes_of, cause_of, ended_charts, has_ended, is_broken, is_gone, is_kept, running, state_of, unread, unsent}
 use Rattle.cy_model.specs.Jobs.{next_job}
 use Rattle.cy_model.specs.Marks.{Mark, opened, ended, came, sent, called, started, back, put, Trace}
+use Rattle.cy_model.specs.Replies.{Replied, plain}
 use Rattle.cy_model.specs.Settling.{with_marks, end_marks_by, rested, settled}
 
 pub data Entry : Type 0 where
@@ -82,10 +83,10 @@ is_closed_act act.Return T = false
 -- ---- the marks
 
 -- what the socket told
-abbrev pub event_mark : Trace → Event → List ℕ → Mark
-event_mark T event.In b = came (take (room T) b)
-event_mark T event.End b = ended
-event_mark T (event.Took n) b = sent (sent_of n T)
+abbrev pub event_marks : Trace → Event → List ℕ → List Mark
+event_marks T event.In b = came (take (room T) b) ∷ []
+event_marks T event.End b = ended ∷ []
+event_marks T (event.Took n) b = sent (sent_of n T) ∷ []
 
 -- the end of the request, where the row says so
 abbrev pub end_marks : Bool → Trace → List Mark
@@ -96,18 +97,23 @@ end_marks false T = []
 abbrev pub return_marks : Trace → List Mark
 return_marks T = back ∷ called call.Return None ∷ end_marks (is_end (row (state_of T) call.Return)) T
 
+-- some callbacks are begun by a call of the state table
+abbrev pub run_marks : Bool → List Mark
+run_marks true = called call.Run None ∷ []
+run_marks false = []
+
 abbrev pub job_marks : Option Job → List Mark
 job_marks None = []
-job_marks (Some (job.Service part)) = started (job.Service part) ∷ called call.Run None ∷ []
+job_marks (Some j) = started j ∷ run_marks (makes_calls j)
 
 -- the marks of an act that is open to the callback; one that can't be made now makes none
-abbrev pub open_act_marks : Trace → Act → List ℕ → Option (List Mark)
-open_act_marks T (act.Write n) b = if is_full (answer_of T) n then None else Some (put (take (write_takes (answer_of T) n) b) ∷ [])
-open_act_marks T act.Return b = Some (return_marks T)
+abbrev pub open_act_marks : Limits → Trace → Act → List ℕ → Option (List Mark)
+open_act_marks limits T (act.Write n) b = if is_full (answer_of T) n then None else Some (put (take (write_takes (answer_of T) n) b) ∷ [])
+open_act_marks limits T act.Return b = Some (return_marks T)
 
 -- the marks of an act of the callback that runs; a refused act makes none
-abbrev pub act_marks : Trace → Act → List ℕ → Option (List Mark)
-act_marks T a b = if is_closed_act a T then None else open_act_marks T a b
+abbrev pub act_marks : Limits → Trace → Act → List ℕ → Option (List Mark)
+act_marks limits T a b = if is_closed_act a T then None else open_act_marks limits T a b
 
 -- an act is refused, or its marks are made and what follows from them
 abbrev pub after_act : Limits → List Rule → ℕ → Trace → Option (List Mark) → Trace
@@ -116,7 +122,7 @@ after_act limits rules t T (Some ms) = settled limits rules t (with_marks t ms T
 
 -- no callback runs that could act, or it acts
 abbrev pub after_callback : Limits → List Rule → ℕ → Trace → Act → List ℕ → Trace
-after_callback limits rules t T a b = if is_some (running T) then after_act limits rules t T (act_marks T a b) else T
+after_callback limits rules t T a b = if is_some (running T) then after_act limits rules t T (act_marks limits T a b) else T
 
 -- how many requests have ended
 abbrev pub ended_count : Trace → ℕ
@@ -132,7 +138,7 @@ after_turn t T S = with_marks t (job_marks (owed_after T S)) S
 
 -- what the socket tells, before a head is taken up
 abbrev pub rested_event : Limits → ℕ → Trace → Event → List ℕ → Trace
-rested_event limits t T e b = if is_closed_to e T then T else rested limits t ((t, event_mark T e b) ∷ T)
+rested_event limits t T e b = if is_closed_to e T then T else rested limits t (with_marks t (event_marks T e b) T)
 
 -- the callback that is owed begins, before a head is taken up
 abbrev pub rested_turn : Limits → ℕ → Trace → Trace
@@ -144,13 +150,13 @@ rested_act limits t T None = T
 rested_act limits t T (Some ms) = rested limits t (with_marks t ms T)
 
 abbrev pub rested_callback : Limits → ℕ → Trace → Act → List ℕ → Trace
-rested_callback limits t T a b = if is_some (running T) then rested_act limits t T (act_marks T a b) else T
+rested_callback limits t T a b = if is_some (running T) then rested_act limits t T (act_marks limits T a b) else T
 
 -- The trace after an entry. One that is refused changes nothing.
 unfoldable pub after : Limits → List Rule → ℕ → Trace → Entry → Trace
 after limits rules t T opening = settled limits rules t ((t, opened) ∷ T)
 after limits rules t T tick = settled limits rules t T
-after limits rules t T (on_event e b) = if is_closed_to e T then T else settled limits rules t ((t, event_mark T e b) ∷ T)
+after limits rules t T (on_event e b) = if is_closed_to e T then T else settled limits rules t (with_marks t (event_marks T e b) T)
 after limits rules t T on_run = if is_gone T then T else after_turn t T (settled limits rules t T)
 after limits rules t T (on_act a b) = if is_gone T then T else after_callback limits rules t T a b
 
@@ -174,21 +180,28 @@ event_reply T (event.Took n) b = reply.Taken (sent_of n T)
 abbrev pub reply_to_event : Trace → Event → List ℕ → Reply
 reply_to_event T e b = if is_closed_to e T then reply.Closed else event_reply T e b
 
-abbrev pub open_act_reply : Trace → Act → Reply
-open_act_reply T (act.Write n) = if is_full (answer_of T) n then reply.Again else reply.Taken (write_takes (answer_of T) n)
-open_act_reply T act.Return = reply.Done
+abbrev pub write_reply : Answer → ℕ → Reply
+write_reply a n = if is_full a n then reply.Again else reply.Taken (write_takes a n)
 
-abbrev pub act_reply : Trace → Act → Reply
-act_reply T a = if is_closed_act a T then reply.Closed else open_act_reply T a
+abbrev pub open_act_reply : Limits → Trace → Act → Replied
+open_act_reply limits T (act.Write n) = plain (write_reply (answer_of T) n)
+open_act_reply limits T act.Return = plain reply.Done
+
+abbrev pub act_reply : Limits → Trace → Act → Replied
+act_reply limits T a = if is_closed_act a T then plain reply.Closed else open_act_reply limits T a
 
 -- the reply to an act on a connection that isn't gone
-abbrev pub callback_reply : Trace → Act → Reply
-callback_reply T a = if is_some (running T) then act_reply T a else reply.NotActive
+abbrev pub callback_reply : Limits → Trace → Act → Replied
+callback_reply limits T a = if is_some (running T) then act_reply limits T a else plain reply.NotActive
+
+-- the reply to a worker's turn, which settles first
+abbrev pub turn_reply : Trace → Trace → Replied
+turn_reply T S = plain (job_reply (owed_after T S))
 
 -- the reply to an entry
-unfoldable pub reply_to : Limits → List Rule → ℕ → Trace → Entry → Reply
-reply_to limits rules t T opening = reply.Entered
-reply_to limits rules t T tick = reply.Done
-reply_to limits rules t T (on_event e b) = reply_to_event T e b
-reply_to limits rules t T on_run = if is_gone T then reply.Closed else job_reply (owed_after T (settled limits rules t T))
-reply_to limits rules t T (on_act a b) = if is_gone T then reply.Closed else callback_reply T a
+unfoldable pub reply_to : Limits → List Rule → ℕ → Trace → Entry → Replied
+reply_to limits rules t T opening = plain reply.Entered
+reply_to limits rules t T tick = plain reply.Done
+reply_to limits rules t T (on_event e b) = plain (reply_to_event T e b)
+reply_to limits rules t T on_run = if is_gone T then plain reply.Closed else turn_reply T (settled limits rules t T)
+reply_to limits rules t T (on_act a b) = if is_gone T then plain reply.Closed else callback_reply limits T a

@@ -62,7 +62,7 @@ is_broken [] = false
 is_broken ((t, broken) ∷ T) = true
 is_broken ((t, m) ∷ T) = is_broken T
 
--- ---- the last request; before the first these are as at a begin
+-- ---- the last request; before the first, and where a head was refused, these are as at a begin
 
 -- a request is open from its begin to its end
 abbrev pub is_open : Trace → Bool
@@ -71,28 +71,39 @@ is_open ((t, began r) ∷ T) = true
 is_open ((t, over) ∷ T) = false
 is_open ((t, m) ∷ T) = is_open T
 
+-- the last head was refused
+abbrev pub is_refused : Trace → Bool
+is_refused [] = false
+is_refused ((t, began r) ∷ T) = false
+is_refused ((t, refused status to_head) ∷ T) = true
+is_refused ((t, m) ∷ T) = is_refused T
+
 -- what was settled as it was taken up
 abbrev pub request_of : Trace → Option TakenUp
 request_of [] = None
 request_of ((t, began r) ∷ T) = Some r
+request_of ((t, refused status to_head) ∷ T) = None
 request_of ((t, m) ∷ T) = request_of T
 
 -- the digit behind the dot of its version
 abbrev pub minor_of_request : Trace → ℕ
 minor_of_request [] = 0
 minor_of_request ((t, began r) ∷ T) = r.head.minor
+minor_of_request ((t, refused status to_head) ∷ T) = 0
 minor_of_request ((t, m) ∷ T) = minor_of_request T
 
 -- its answer may leave the connection open
 abbrev pub is_kept : Trace → Bool
 is_kept [] = false
 is_kept ((t, began r) ∷ T) = r.keep
+is_kept ((t, refused status to_head) ∷ T) = false
 is_kept ((t, m) ∷ T) = is_kept T
 
 -- the component that serves it; a dispatch may name another
 abbrev pub part_of : Trace → ℕ
 part_of [] = 0
 part_of ((t, began r) ∷ T) = r.part
+part_of ((t, refused status to_head) ∷ T) = 0
 part_of ((t, called k (Some part)) ∷ T) = part
 part_of ((t, m) ∷ T) = part_of T
 
@@ -100,6 +111,7 @@ part_of ((t, m) ∷ T) = part_of T
 abbrev pub running : Trace → Option Job
 running [] = None
 running ((t, began r) ∷ T) = None
+running ((t, refused status to_head) ∷ T) = None
 running ((t, started j) ∷ T) = Some j
 running ((t, parked s) ∷ T) = None
 running ((t, back) ∷ T) = None
@@ -109,6 +121,7 @@ running ((t, m) ∷ T) = running T
 abbrev pub is_served : Trace → Bool
 is_served [] = false
 is_served ((t, began r) ∷ T) = false
+is_served ((t, refused status to_head) ∷ T) = false
 is_served ((t, started (job.Service p)) ∷ T) = true
 is_served ((t, m) ∷ T) = is_served T
 
@@ -116,6 +129,7 @@ is_served ((t, m) ∷ T) = is_served T
 abbrev pub calls : Trace → List Call
 calls [] = []
 calls ((t, began r) ∷ T) = []
+calls ((t, refused status to_head) ∷ T) = []
 calls ((t, called k p) ∷ T) = calls T ++ k ∷ []
 calls ((t, m) ∷ T) = calls T
 
@@ -123,6 +137,7 @@ calls ((t, m) ∷ T) = calls T
 abbrev pub state_of : Trace → State
 state_of [] = state.Dispatched
 state_of ((t, began r) ∷ T) = state.Dispatched
+state_of ((t, refused status to_head) ∷ T) = state.Dispatched
 state_of ((t, called k p) ∷ T) = next_state (state_of T) k
 state_of ((t, m) ∷ T) = state_of T
 
@@ -130,6 +145,7 @@ state_of ((t, m) ∷ T) = state_of T
 abbrev pub answer_of : Trace → Answer
 answer_of [] = fresh_answer
 answer_of ((t, began r) ∷ T) = fresh_answer
+answer_of ((t, refused status to_head) ∷ T) = fresh_answer
 answer_of ((t, put b) ∷ T) = after_put b (answer_of T)
 answer_of ((t, error_answer s) ∷ T) = error_answer_of s
 answer_of ((t, m) ∷ T) = answer_of T

@@ -1,5 +1,5 @@
 -- Laws of the definitions. Each is the contract of a public function without a body.
-use Rattle.std.specs.Prelude.{◌≡◌, ◌≤◌, ◌⊎◌, ℕ, ◌+◌, Bool, true, false, List, [], ◌∷◌, ◌++◌, All, codes, drop, length, Option, option_map, Some, None}
+use Rattle.std.specs.Prelude.{◌≡◌, ◌≢◌, ◌≤◌, ◌⊎◌, ℕ, ◌+◌, Bool, true, false, List, [], ◌∷◌, ◌++◌, All, codes, drop, length, Option, option_map, Some, None}
 use Rattle.cy_event.specs.declared.limits.Limits.{Limits}
 use Rattle.cy_event.specs.declared.steps.Act.TheVariants as act
 use Rattle.cy_event.specs.declared.steps.Call.{Call}
@@ -13,13 +13,14 @@ use Rattle.cy_event.specs.declared.steps.Step.TheVariants as step
 use Rattle.cy_event.specs.Limits.{standard}
 use Rattle.cy_map.specs.declared.rule.Rule.{Rule}
 use Rattle.cy_event.specs.Table.{IsLegal}
-use Rattle.cy_model.specs.Connections.{connections, counted, own_entries, reply_by, own}
-use Rattle.cy_model.specs.Entries.{Entry, on_run, after, trace_of, reply_to}
+use Rattle.cy_model.specs.Connections.{admission, connections, counted, kind_of, moment, own_entries, reply_by, own}
+use Rattle.cy_model.specs.Entries.{Entry, opening, tick, on_run, after, trace_of, reply_to}
 use Rattle.cy_event.specs.Answers.{refusal_text}
 use Rattle.cy_event.specs.Framings.{Framed}
 use Rattle.cy_event.specs.Heads.{Head, found, head_of}
 use Rattle.cy_model.specs.Folds.{bytes_of, cause_of, charts, consumed, ended_charts, has_ended, is_gone, is_open, is_served, output, request_of, requests_of, running}
-use Rattle.cy_model.specs.Marks.{TakenUp, Trace}
+use Rattle.cy_model.specs.Marks.{TakenUp, Trace, began, over}
+use Rattle.cy_model.specs.Replies.{is_refusal, plain}
 use Rattle.cy_model.specs.Reports.{report}
 use Rattle.cy_model.specs.Runs.{IsLegalRun, answered}
 use Rattle.cy_model.specs.Steps.{IsValid}
@@ -150,12 +151,21 @@ NothingIsTakenBack =
 
 -- ---- ends and refusals
 
--- whatever the entries of a connection are, each request that it took up has one chart: it ends once at most, and what
--- was not taken up never ends
+-- a request begins only where none is open, and one ends only where one is open
+abbrev pub TakeTurns : Trace → Type 0
+TakeTurns [] = Unit {0}
+TakeTurns ((t, began r) ∷ T) = (is_open T ≡ false) × TakeTurns T
+TakeTurns ((t, over) ∷ T) = (is_open T ≡ true) × TakeTurns T
+TakeTurns ((t, m) ∷ T) = TakeTurns T
+
+-- each request that was taken up has one chart
+pub record EndOnce (T : Trace) : Type 0 where
+  pub turns : TakeTurns T
+  pub charts : length (charts T) ≡ length (requests_of T)
+
+-- whatever the entries of a connection are, each request that it took up ends once at most, and nothing else ends
 abbrev pub RequestsEndOnce : Type 0
-RequestsEndOnce =
-    (limits : Limits) (rules : List Rule) (entries : List (ℕ × Entry))
-    → length (charts (trace_of limits rules entries)) ≡ length (requests_of (trace_of limits rules entries))
+RequestsEndOnce = (limits : Limits) (rules : List Rule) (entries : List (ℕ × Entry)) → EndOnce (trace_of limits rules entries)
 
 -- a request of this number is what its head leads to: a rule serves it or none does, and it isn't to be refused. So its
 -- component, its asynchronous support and what is said of its connection are those of the verdict
@@ -196,7 +206,7 @@ pub record TurnBegins (limits : Limits) (rules : List Rule) (now : ℕ) (T : Tra
   pub rule : Rule
   pub framing : Framed
   pub mapped : verdict_of rules head ≡ served rule framing
-  pub reply : reply_to limits rules now T on_run ≡ reply.Begun (job.Service rule.part)
+  pub reply : reply_to limits rules now T on_run ≡ plain (reply.Begun (job.Service rule.part))
   pub runs : running (after limits rules now T on_run) ≡ Some (job.Service rule.part)
 
 -- whatever the entries of a connection are: while a request is open whose service has not begun, a worker's turn begins it
@@ -218,6 +228,45 @@ pub record AreAlike (limits : Limits) (rules : List Rule) (w v : List Step) (c :
   pub trace : own_trace limits rules w c ≡ own_trace limits rules v c
   pub replies : (now : ℕ) (e : Entry)
       → reply_by limits rules (own c e) now (connections limits rules w) ≡ reply_by limits rules (own c e) now (connections limits rules v)
+
+-- A step of one connection adds an entry to the list of that one, if it was admitted, and none to another.
+pub record AddsOwn (limits : Limits) (rules : List Rule) (w : List Step) (s : Step) (c : ℕ) (e : Entry) : Type 0 where
+  pub own : own_entries limits rules (s ∷ w) c ≡ option_map (λ entries. (moment w, e) ∷ entries) (own_entries limits rules w c)
+  pub other : (d : ℕ) → d ≢ c → own_entries limits rules (s ∷ w) d ≡ own_entries limits rules w d
+
+abbrev pub OwnStepsAddOwnEntries : Type 0
+OwnStepsAddOwnEntries =
+    (limits : Limits) (rules : List Rule) (w : List Step) (s : Step) (c : ℕ) (e : Entry)
+    → kind_of s ≡ own c e → AddsOwn limits rules w s c e
+
+-- A step of the clock adds a tick to the list of each connection that was admitted.
+abbrev pub ClockTicksForEach : Type 0
+ClockTicksForEach =
+    (limits : Limits) (rules : List Rule) (w : List Step) (t c : ℕ)
+    → own_entries limits rules (step.At t ∷ w) c ≡ option_map (λ entries. (t, tick) ∷ entries) (own_entries limits rules w c)
+
+-- An admission that is accepted opens one list, that of its number, and leaves the others.
+pub record OpensOne (limits : Limits) (rules : List Rule) (w : List Step) (c : ℕ) : Type 0 where
+  pub own : own_entries limits rules w c ≡ None → own_entries limits rules (step.Admit c ∷ w) c ≡ Some ((moment w, opening) ∷ [])
+  pub other : (d : ℕ) → d ≢ c → own_entries limits rules (step.Admit c ∷ w) d ≡ own_entries limits rules w d
+
+abbrev pub AdmissionsOpenOne : Type 0
+AdmissionsOpenOne =
+    (limits : Limits) (rules : List Rule) (w : List Step) (c : ℕ)
+    → reply_by limits rules (admission c) (moment w) (connections limits rules w) ≡ plain reply.Entered → OpensOne limits rules w c
+
+-- One that finds as many counted as may be opens none.
+abbrev pub FullOpensNone : Type 0
+FullOpensNone =
+    (limits : Limits) (rules : List Rule) (w : List Step) (c n : ℕ)
+    → reply_by limits rules (admission c) (moment w) (connections limits rules w) ≡ plain (reply.Full n)
+    → connections limits rules (step.Admit c ∷ w) ≡ connections limits rules w
+
+-- A step that is refused, or can do nothing now, leaves no mark.
+abbrev pub RefusalsLeaveNoMark : Type 0
+RefusalsLeaveNoMark =
+    (limits : Limits) (rules : List Rule) (t : ℕ) (T : Trace) (e : Entry) → is_refusal (reply_to limits rules t T e).reply ≡ true
+    → after limits rules t T e ≡ T
 
 abbrev pub OwnEntriesDecide : Type 0
 OwnEntriesDecide =

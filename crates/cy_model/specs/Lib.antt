@@ -1,9 +1,11 @@
 pub mod Marks
 pub mod Verdicts
+pub mod Unbuilt
 pub mod Folds
 pub mod Repeat
 pub mod Settling
 pub mod Jobs
+pub mod Replies
 pub mod Entries
 pub mod Runs
 pub mod Connections

@@ -1,5 +1,5 @@
 -- The report of a run: a line for each step, and then lines for each connection.
-use Rattle.std.specs.Prelude.{ℕ, ◌+◌, List, [], ◌∷◌, ◌++◌, length, map, reverse, flat_map, Option, Some, None, codes, decimal, nat_lt, if◌then◌else◌}
+use Rattle.std.specs.Prelude.{ℕ, ◌+◌, true, false, List, [], ◌∷◌, ◌++◌, length, map, reverse, flat_map, Option, Some, None, codes, decimal, nat_lt, if◌then◌else◌}
 use Rattle.cy_bytes.specs.Quoting.{quoted}
 use Rattle.cy_event.specs.Charts.{chart_of}
 use Rattle.cy_event.specs.declared.limits.Limits.{Limits}
@@ -21,14 +21,29 @@ use Rattle.cy_model.specs.Connections.{History, connections, replies}
 use Rattle.cy_model.specs.Entries.{trace_of}
 use Rattle.cy_model.specs.Folds.{cause_of, charts, output, took}
 use Rattle.cy_model.specs.Marks.{Trace}
+use Rattle.cy_model.specs.Replies.{Replied}
 
 abbrev pub line_end : List ℕ
 line_end = codes "\n"
 
 -- ---- replies
 
+-- a callback of a listener, by its number and its tag
+abbrev pub listener_text : List ℕ → ℕ → ℕ → List ℕ
+listener_text name listener tag = name ++ codes " " ++ decimal listener ++ codes " " ++ decimal tag
+
 abbrev pub job_text : Job → List ℕ
 job_text (job.Service part) = codes "service " ++ decimal part
+job_text (job.Again part) = codes "again " ++ decimal part
+job_text job.Resume = codes "resume"
+job_text job.Readable = codes "readable"
+job_text job.AllRead = codes "allread"
+job_text job.Writable = codes "writable"
+job_text job.ReadError = codes "readerror"
+job_text job.WriteError = codes "writeerror"
+job_text (job.OnTimeout listener tag) = listener_text (codes "ontimeout") listener tag
+job_text (job.OnError listener tag) = listener_text (codes "onerror") listener tag
+job_text (job.OnComplete listener tag) = listener_text (codes "oncomplete") listener tag
 
 -- the names of the states, as Tomcat's documentation of asynchronous processing has them
 abbrev pub state_name : State → List ℕ
@@ -46,31 +61,38 @@ state_name state.Dispatching = codes "DISPATCHING"
 state_name state.MustError = codes "MUST_ERROR"
 state_name state.Error = codes "ERROR"
 
-unfoldable pub reply_text : Reply → List ℕ
-reply_text reply.Done = codes "Done"
-reply_text reply.Wake = codes "Wake"
-reply_text reply.Entered = codes "Entered"
-reply_text (reply.Full n) = codes "Full " ++ decimal n
-reply_text (reply.Taken n) = codes "Taken " ++ decimal n
--- no step reads content so far, so none stands beside this reply
-reply_text (reply.Got n) = codes "Got \"\""
-reply_text reply.GotEnd = codes "GotEnd"
-reply_text reply.Again = codes "Again"
-reply_text (reply.Begun j) = codes "Begun " ++ job_text j
-reply_text reply.Idle = codes "Idle"
-reply_text (reply.Illegal s) = codes "Illegal " ++ state_name s
-reply_text reply.NotActive = codes "NotActive"
-reply_text reply.NoConn = codes "NoConn"
-reply_text reply.BadValue = codes "BadValue"
-reply_text (reply.TooMany n) = codes "TooMany " ++ decimal n
-reply_text reply.Closed = codes "Closed"
+-- with these bytes beside it
+unfoldable pub reply_text : Reply → List ℕ → List ℕ
+reply_text reply.Done got = codes "Done"
+reply_text reply.Wake got = codes "Wake"
+reply_text reply.Entered got = codes "Entered"
+reply_text (reply.Full n) got = codes "Full " ++ decimal n
+reply_text (reply.Taken n) got = codes "Taken " ++ decimal n
+reply_text (reply.Got n) got = codes "Got \"" ++ quoted got ++ codes "\""
+reply_text reply.GotEnd got = codes "GotEnd"
+reply_text reply.Again got = codes "Again"
+reply_text (reply.Ready true) got = codes "Ready true"
+reply_text (reply.Ready false) got = codes "Ready false"
+reply_text (reply.Begun j) got = codes "Begun " ++ job_text j
+reply_text reply.Idle got = codes "Idle"
+reply_text (reply.Illegal s) got = codes "Illegal " ++ state_name s
+reply_text reply.Unsupported got = codes "Unsupported"
+reply_text reply.AlreadySet got = codes "AlreadySet"
+reply_text reply.Committed got = codes "Committed"
+reply_text reply.BadValue got = codes "BadValue"
+reply_text reply.NotActive got = codes "NotActive"
+reply_text reply.NoConn got = codes "NoConn"
+reply_text reply.NoPass got = codes "NoPass"
+reply_text reply.Ended got = codes "Ended"
+reply_text reply.Closed got = codes "Closed"
+reply_text (reply.TooMany n) got = codes "TooMany " ++ decimal n
 
 -- the line of the step of this number
-unfoldable pub reply_line : ℕ → Reply → List ℕ
-reply_line number r = decimal number ++ codes " " ++ reply_text r ++ line_end
+unfoldable pub reply_line : ℕ → Replied → List ℕ
+reply_line number r = decimal number ++ codes " " ++ reply_text r.reply r.got ++ line_end
 
 -- the lines of steps that are numbered from here on
-abbrev pub reply_lines : ℕ → List Reply → List ℕ
+abbrev pub reply_lines : ℕ → List Replied → List ℕ
 reply_lines number [] = []
 reply_lines number (r ∷ rs) = reply_line number r ++ reply_lines (number + 1) rs
 

@@ -1,15 +1,15 @@
 -- The legal runs of one connection.
 use Rattle.std.specs.Prelude.{◌≡◌, ◌≤◌, ◌↔◌, ℕ, List, [], ◌∷◌, map}
 use Rattle.cy_event.specs.declared.limits.Limits.{Limits}
-use Rattle.cy_event.specs.declared.steps.Reply.{Reply}
 use Rattle.cy_map.specs.declared.rule.Rule.{Rule}
 use Rattle.cy_model.specs.Entries.{Entry, opening, trace_of, reply_to}
+use Rattle.cy_model.specs.Replies.{Replied}
 
 -- an entry with its moment, and what it was answered
 pub record Answered : Type 0 where
   pub moment : ℕ
   pub entry : Entry
-  pub reply : Reply
+  pub reply : Replied
 
 abbrev pub entry_of : Answered → ℕ × Entry
 entry_of a = (a.moment, a.entry)

@@ -1,5 +1,5 @@
 //! Laws of the definitions: a function without parameters and without a body has the law as its contract.
-ghost use Rattle.cy_model.specs.Laws.{ChartsAreLegal, ExampleIsReported, GoneStaysGone, HeadsAreAtTheirPlaces, LimitIsKept, NoEndWaits, NoHeadIsLost, NoHeadWaits, NothingIsTakenBack, OwnEntriesDecide, RefusalsAreTold, RequestsAreJudged, RequestsEndOnce, RunsAreLegal, SettlingGoesOn, SettlingIsTwoWords, SettlingRests, TurnsServe};
+ghost use Rattle.cy_model.specs.Laws.{AdmissionsOpenOne, ChartsAreLegal, ClockTicksForEach, ExampleIsReported, FullOpensNone, GoneStaysGone, HeadsAreAtTheirPlaces, LimitIsKept, NoEndWaits, NoHeadIsLost, NoHeadWaits, NothingIsTakenBack, OwnEntriesDecide, OwnStepsAddOwnEntries, RefusalsAreTold, RefusalsLeaveNoMark, RequestsAreJudged, RequestsEndOnce, RunsAreLegal, SettlingGoesOn, SettlingIsTwoWords, SettlingRests, TurnsServe};
 
 /// No move applies to what is settled.
 pub fn settling_rests()
@@ -69,7 +69,8 @@ pub fn nothing_is_taken_back()
     ensures { NothingIsTakenBack }
 {}
 
-/// Each request that was taken up has one chart, whatever happened to its connection: it ends once at most.
+/// Each request that was taken up ends once at most, and nothing else ends, whatever happened to its connection; it has
+/// one chart.
 pub fn requests_end_once()
     ensures { RequestsEndOnce }
 {}
@@ -95,4 +96,29 @@ pub fn turns_serve()
 /// The trace of a connection, and the reply to each of its entries, are functions of its own entries alone.
 pub fn own_entries_decide()
     ensures { OwnEntriesDecide }
+{}
+
+/// A step of one connection adds an entry to its list, if it was admitted, and none to another.
+pub fn own_steps_add_own_entries()
+    ensures { OwnStepsAddOwnEntries }
+{}
+
+/// A step of the clock adds a tick to the list of each connection that was admitted.
+pub fn clock_ticks_for_each()
+    ensures { ClockTicksForEach }
+{}
+
+/// An admission that is accepted opens one list, and leaves the others.
+pub fn admissions_open_one()
+    ensures { AdmissionsOpenOne }
+{}
+
+/// An admission that is answered `Full` opens none.
+pub fn full_opens_none()
+    ensures { FullOpensNone }
+{}
+
+/// A step that is refused, or can do nothing now, leaves no mark.
+pub fn refusals_leave_no_mark()
+    ensures { RefusalsLeaveNoMark }
 {}

@@ -23,5 +23,10 @@ fn laws_ask_for_nothing(_rt: HostRuntime) -> Result<(), Fail> {
     laws::refusals_are_told();
     laws::turns_serve();
     laws::own_entries_decide();
+    laws::own_steps_add_own_entries();
+    laws::clock_ticks_for_each();
+    laws::admissions_open_one();
+    laws::full_opens_none();
+    laws::refusals_leave_no_mark();
     Ok(())
 }

@@ -8,8 +8,9 @@ use Rattle.cy_event.specs.Answering.{Answering, Commit, Sending, closing, cut, c
 use Rattle.cy_respond.specs.Fields.{is_status}
 use Rattle.cy_out.specs.Calls.{Call, Change, UnderWay, aborts, acted, adds_header, after_call, after_calls, begun, changed, changes, does, puts_error, resets, sending, sets_close, sets_length, sets_status, with_sending}
 use Rattle.cy_out.specs.Exchanges.{Act, Exchange, after_act, flushes, is_out, marks_by, moment_of, receives, writes}
-use Rattle.cy_out.specs.Laws.{AllCallsFrameAlike, AreFramedAlike, asked_by, framing_under_way, known_length, length_under_way}
-use Rattle.cy_out.specs.Pieces.{content_put, is_cut_early}
+use Rattle.cy_event.specs.AnswerBytes.{known_length}
+use Rattle.cy_out.specs.Laws.{AllCallsFrameAlike, AreFramedAlike, asked_by, framing_under_way, length_under_way}
+use Rattle.cy_event.specs.Pieces.{content_put, is_cut_early}
 use Rattle.cy_out.proofs.CallsOneAnswer.{Course, Unsent, abort_changes_nothing, act_outside, begins, call_course, error_in_place, moment_inside, moment_outside, refused, unsent_is}
 use Rattle.cy_out.proofs.HeadsAlike.{acts_alike, both_in, both_out, cut_commits, push_keeps}
 use Rattle.cy_out.proofs.LawLemmas.{aborted_is_void}

@@ -12,8 +12,9 @@ use Rattle.cy_event.specs.declared.steps.Reply.TheVariants as reply
 use Rattle.cy_respond.specs.Fields.{after_field, after_status, is_status}
 use Rattle.cy_out.specs.Calls.{Call, Change, UnderWay, aborts, acted, adds_header, after_call, after_calls, begun, changed, changes, does, puts_error, resets, sending, sets_close, sets_length, sets_status, with_sending}
 use Rattle.cy_out.specs.Exchanges.{Act, after_act, finished, flushes, is_out, marks_by, moment_of, receives, writes, written}
-use Rattle.cy_out.specs.Laws.{AbortedGainsNothing, AllCallsAreRead, AllCallsGoByTheLength, AllCallsMakeOneAnswer, AllCallsWriteWhatIsCut, IsOneAnswer, answer_bytes, bytes_so_far, bytes_under_way, is_above, is_below, known_length, length_under_way}
-use Rattle.cy_out.specs.Pieces.{Mark, content_put, cut_pieces, is_cut_early, is_flush, pieces_behind, put, run_pieces}
+use Rattle.cy_event.specs.AnswerBytes.{answer_bytes, known_length}
+use Rattle.cy_out.specs.Laws.{AbortedGainsNothing, AllCallsAreRead, AllCallsGoByTheLength, AllCallsMakeOneAnswer, AllCallsWriteWhatIsCut, IsOneAnswer, bytes_under_way, is_above, is_below, length_under_way, so_far_under_way}
+use Rattle.cy_event.specs.Pieces.{Mark, content_put, cut_pieces, is_cut_early, is_flush, pieces_behind, put, run_pieces}
 use Rattle.cy_out.proofs.ClientReading.{act_leaves, known_alike, known_is, more_by_both, pieces_are_read, says_size}
 use Rattle.cy_out.proofs.ContentSent.{Sends, act_sends, finish_sends, to_come}
 use Rattle.cy_out.proofs.CutsSoFar.{act_leaves_rest, all_pieces, few_wait, uncut}
@@ -751,7 +752,7 @@ calls_uncut before (call ∷ calls) u course s =
     calls_uncut before calls (after_call call u) (call_course before call u course) (call_uncut before call u course s)
 
 -- the head, and the pieces that were cut
-out_so_far : (before : List ℕ) (at : ℕ) (u : UnderWay) → Out before u → IsUncut u → written u.exchange ≡ before ++ bytes_so_far at u
+out_so_far : (before : List ℕ) (at : ℕ) (u : UnderWay) → Out before u → IsUncut u → written u.exchange ≡ before ++ so_far_under_way at u
 out_so_far before at u o s =
     let asked = (sending u).asked in
     let mode = mode_of asked u.head.status u.set_length in
@@ -776,7 +777,7 @@ out_so_far before at u o s =
     ++ flat_map (piece_text (mode_of asked u.head.status (set i))) (cut_pieces [] u.marks)))
 
 course_so_far : (before : List ℕ) (at : ℕ) (u : UnderWay) → is_out u.exchange ≡ true → u.is_given_up ≡ false → Course before u → IsUncut u
-    → written u.exchange ≡ before ++ bytes_so_far at u
+    → written u.exchange ≡ before ++ so_far_under_way at u
 course_so_far before at u outside kept (unsent w) s = let never : true ≡ false = sym outside ∙ is_in u.exchange w.commit in cc
 course_so_far before at u outside kept (out o) s = out_so_far before at u o s
 course_so_far before at u outside kept (given_up g) s = let never : true ≡ false = sym g.kept ∙ kept in cc

@@ -9,8 +9,8 @@ use Rattle.cy_event.specs.Answers.{crlf}
 use Rattle.cy_event.specs.AnswerModes.{chunked, hex_text, piece_text}
 use Rattle.cy_event.specs.BodyGrammar.{Chunk, ChunkedBody, IsBody, IsChunk, IsChunked, IsLine, IsTrailer, SizeLine, chunk_text, line_end, size_of}
 use Rattle.cy_event.specs.declared.framing.Framing.TheVariants as framing
-use Rattle.cy_out.specs.Laws.{content_text}
-use Rattle.cy_out.specs.Pieces.{IsPiece}
+use Rattle.cy_event.specs.AnswerBytes.{content_text}
+use Rattle.cy_event.specs.Pieces.{IsPiece}
 use Rattle.cy_out.proofs.HexSizes.{glyph, one_digit_text, two_digits_text, three_digits_text, four_digits_text}
 
 -- ---- digits

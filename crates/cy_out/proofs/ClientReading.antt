@@ -7,8 +7,9 @@ use Rattle.cy_event.specs.Answers.{Answer}
 use Rattle.cy_event.specs.AnswerModes.{Asked, Mode, chunked, content_mode, counted, has_no_content, mode_of, piece_text, until_close, void}
 use Rattle.cy_event.specs.Answering.{Answering, Took, can_cut, can_take, cut, has_to_cut, more_by, passes_length, push_byte, push_bytes, set_length_of}
 use Rattle.cy_out.specs.Exchanges.{Act, Exchange, after_act, after_acts, flushes, head_moment, marks_by, marks_of, receives, writes}
-use Rattle.cy_out.specs.Laws.{ClientsReadTheContent, IsFramed, IsRead, answer_bytes, content_text, head_length, known_length}
-use Rattle.cy_out.specs.Pieces.{IsPiece, content_put, flushed, is_cut_early, pieces_behind}
+use Rattle.cy_event.specs.AnswerBytes.{answer_bytes, content_text, known_length}
+use Rattle.cy_out.specs.Laws.{ClientsReadTheContent, IsFramed, IsRead, head_length}
+use Rattle.cy_event.specs.Pieces.{IsPiece, content_put, flushed, is_cut_early, pieces_behind}
 use Rattle.cy_out.proofs.ChunksWritten.{chunks_are_a_body}
 use Rattle.cy_out.proofs.LawLemmas.{writes_take_the_most}
 use Rattle.cy_out.proofs.MarkLemmas.{content_of_both}

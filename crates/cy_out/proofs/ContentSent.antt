@@ -10,7 +10,7 @@ use Rattle.cy_event.specs.AnswerModes.{Mode, last_text, piece_text}
 use Rattle.cy_event.specs.Answering.{Answering, Sending, Took, after_finish, can_cut, can_take, cut, has_to_cut, is_committed, is_empty, is_full, more_by, passes_length, push_byte, push_bytes, with_bytes, with_room}
 use Rattle.cy_out.specs.Exchanges.{Act, Exchange, after_act, after_acts, flushes, marks_by, marks_of, receives, writes, written}
 use Rattle.cy_out.specs.Laws.{PiecesFollowTheHead}
-use Rattle.cy_out.specs.Pieces.{Mark, flushed, pieces_behind, put, run_pieces}
+use Rattle.cy_event.specs.Pieces.{Mark, flushed, pieces_behind, put, run_pieces}
 use Rattle.cy_out.proofs.PieceLemmas.{full_behind, run_text}
 
 -- what is still to be written of the content, where this happens

@@ -6,7 +6,7 @@ use Rattle.std.proofs.Math.Seq.{drop-append-add}
 use Rattle.cy_event.specs.Answers.{Answer, content_buffer}
 use Rattle.cy_event.specs.Answering.{Answering, Took, can_cut, can_take, cut, has_to_cut, is_committed, is_full, more_by, passes_length, push_byte, push_bytes, with_room}
 use Rattle.cy_out.specs.Exchanges.{Act, Exchange, after_act, flushes, marks_by, receives, writes}
-use Rattle.cy_out.specs.Pieces.{Mark, cut_pieces, first_pieces, flushed, piece_count, pieces_behind, put, run_pieces}
+use Rattle.cy_event.specs.Pieces.{Mark, cut_pieces, first_pieces, flushed, piece_count, pieces_behind, put, run_pieces}
 use Rattle.cy_out.proofs.ContentSent.{full_is, nothing_waits, room_is}
 
 -- the last piece of a run, which no cut has sent

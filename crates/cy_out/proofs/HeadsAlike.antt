@@ -5,8 +5,9 @@ use Rattle.cy_event.specs.Answers.{Answer, content_buffer}
 use Rattle.cy_event.specs.AnswerModes.{framing_lines, has_no_content, head_of_shape, shape_of}
 use Rattle.cy_event.specs.Answering.{Answering, Commit, Took, can_cut, can_take, commit_by, cut, has_to_cut, is_committed, is_empty, is_full, more_by, passes_length, push_byte, push_bytes, set_length_of}
 use Rattle.cy_out.specs.Exchanges.{Act, Exchange, after_act, flushes, head_moment, is_out, marks_by, marks_of, receives, writes}
-use Rattle.cy_out.specs.Laws.{HeadIsFramedAsGet, asked_by, head_length, known_length}
-use Rattle.cy_out.specs.Pieces.{Mark, content_put, put}
+use Rattle.cy_event.specs.AnswerBytes.{known_length}
+use Rattle.cy_out.specs.Laws.{HeadIsFramedAsGet, asked_by, head_length}
+use Rattle.cy_event.specs.Pieces.{Mark, content_put, put}
 use Rattle.cy_out.proofs.ContentSent.{room_is}
 use Rattle.cy_out.proofs.Pushes.{filled, push_into_room, push_none, push_one}
 use Rattle.cy_out.proofs.WholeAnswers.{began, has_gone, is_in, moment_is, start_of, starts, waiting_act, waits}

@@ -7,7 +7,7 @@ use Rattle.cy_event.specs.Answers.{Answer, content_buffer}
 use Rattle.cy_event.specs.AnswerModes.{head_of_shape, shape_of, void}
 use Rattle.cy_event.specs.Answering.{Answering, Sending, Took, aborted, can_cut, can_take, commit_by, cut, has_to_cut, is_full, more_by, passes_length, push_byte, push_bytes, set_length_of, with_head}
 use Rattle.cy_out.specs.Exchanges.{Act, Exchange, after_act, flushes, receives, writes}
-use Rattle.cy_out.specs.Pieces.{Mark, content_put, flushed, is_cut_early, is_flush, pieces_behind, put}
+use Rattle.cy_event.specs.Pieces.{Mark, content_put, flushed, is_cut_early, is_flush, pieces_behind, put}
 
 -- ---- marks
 

@@ -8,7 +8,7 @@ use Rattle.std.proofs.lemmas.List.Folds.{concat-append}
 use Rattle.std.proofs.Math.Seq.{take-append-add}
 use Rattle.cy_event.specs.Answers.{content_buffer}
 use Rattle.cy_out.specs.Laws.{PiecesEndAtCuts}
-use Rattle.cy_out.specs.Pieces.{EndsAt, IsCut, IsRunCut, Mark, first_pieces, flushed, piece_count, pieces_behind, put, run_pieces, runs_behind}
+use Rattle.cy_event.specs.Pieces.{EndsAt, IsCut, IsRunCut, Mark, first_pieces, flushed, piece_count, pieces_behind, put, run_pieces, runs_behind}
 use Rattle.cy_out.proofs.PieceLemmas.{run_holds}
 
 -- ---- the ends in a run

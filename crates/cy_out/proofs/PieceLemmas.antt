@@ -8,7 +8,7 @@ use Rattle.std.proofs.Math.Seq.{take-append_seam, drop-append_seam}
 use Rattle.cy_event.specs.Answers.{content_buffer}
 use Rattle.cy_event.specs.AnswerModes.{Mode, chunked, counted, piece_text, until_close, void}
 use Rattle.cy_out.specs.Laws.{PiecesAreTheContent, PiecesHaveBytes}
-use Rattle.cy_out.specs.Pieces.{IsPiece, Mark, content_put, first_pieces, flushed, piece_count, pieces_behind, put, run_pieces}
+use Rattle.cy_event.specs.Pieces.{IsPiece, Mark, content_put, first_pieces, flushed, piece_count, pieces_behind, put, run_pieces}
 
 -- ---- a piece in front
 

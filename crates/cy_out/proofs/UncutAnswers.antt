@@ -7,8 +7,9 @@ use Rattle.cy_event.specs.Answers.{Answer, Connection, answer_text, content_leng
 use Rattle.cy_event.specs.AnswerModes.{Asked, Mode, connection_of, counted, framing_lines, has_no_content, piece_text, void}
 use Rattle.cy_event.specs.Answering.{Took, can_cut, can_take, is_full, push_bytes, set_length_of}
 use Rattle.cy_out.specs.Exchanges.{marks_of, written}
-use Rattle.cy_out.specs.Laws.{UncutAnswersAreOneText, WritesFillTheBuffer, answer_bytes, content_text, known_length}
-use Rattle.cy_out.specs.Pieces.{content_put, pieces_behind}
+use Rattle.cy_event.specs.AnswerBytes.{answer_bytes, content_text, known_length}
+use Rattle.cy_out.specs.Laws.{UncutAnswersAreOneText, WritesFillTheBuffer}
+use Rattle.cy_event.specs.Pieces.{content_put, pieces_behind}
 use Rattle.cy_out.proofs.ClientReading.{counted_text, void_text}
 use Rattle.cy_out.proofs.ContentSent.{room_is}
 use Rattle.cy_out.proofs.PieceLemmas.{pieces_are_the_content}

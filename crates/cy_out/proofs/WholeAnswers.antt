@@ -8,8 +8,9 @@ use Rattle.cy_event.specs.Answers.{Answer, content_buffer}
 use Rattle.cy_event.specs.AnswerModes.{Asked, closes, head_of_shape, last_text, mode_of, piece_text, shape_of}
 use Rattle.cy_event.specs.Answering.{Answering, Commit, Took, after_finish, can_cut, can_take, commit_by, cut, has_to_cut, is_empty, is_full, more_by, passes_length, push_byte, push_bytes, set_length_of, whole_length_of, with_bytes, with_head, with_room}
 use Rattle.cy_out.specs.Exchanges.{Act, Exchange, after_act, after_acts, finished, flushes, head_moment, is_out, marks_by, marks_of, moment_of, receives, writes, written}
-use Rattle.cy_out.specs.Laws.{AnswersAreWhole, answer_bytes, known_length}
-use Rattle.cy_out.specs.Pieces.{Mark, content_put, flushed, is_cut_early, is_flush, pieces_behind, put}
+use Rattle.cy_event.specs.AnswerBytes.{answer_bytes, known_length}
+use Rattle.cy_out.specs.Laws.{AnswersAreWhole}
+use Rattle.cy_event.specs.Pieces.{Mark, content_put, flushed, is_cut_early, is_flush, pieces_behind, put}
 use Rattle.cy_out.proofs.ContentSent.{Sends, acts_send, finish_sends, flush_sends, full_cut_sends, full_is, joins, push_sends, received_more, room_is}
 use Rattle.cy_out.proofs.Pushes.{fits_less}
 

@@ -2,7 +2,7 @@
 use Rattle.std.specs.Prelude.{ℕ, Bool, not, ◌&&◌, if◌then◌else◌, List, [], ◌∷◌, ◌++◌, length, take, drop, Option, None, Some, unwrap_or}
 use Rattle.cy_event.specs.Answers.{Answer}
 use Rattle.cy_event.specs.Answering.{Answering, after_finish, after_flush, after_write, can_cut, has_to_cut, is_committed, passes_length, push_bytes}
-use Rattle.cy_out.specs.Pieces.{Mark, flushed, put}
+use Rattle.cy_event.specs.Pieces.{Mark, flushed, put}
 
 -- what the client got, and the answer with what waits for the client
 pub record Exchange : Type 0 where

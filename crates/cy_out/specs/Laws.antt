@@ -4,6 +4,7 @@ use Rattle.std.specs.List.{All, concat, flat_map, list_all}
 use Rattle.cy_event.specs.Answers.{Answer, Connection, answer_text, close, content_buffer, continue_text, head_of_answer, head_text, keep_alive, silent, takes}
 use Rattle.cy_event.specs.AnswerModes.{Asked, Mode, Shape, chunked, connection_of, counted, framing_lines, has_no_content, head_of_shape, last_text, mode_of, piece_text, shape_of, until_close, void}
 use Rattle.cy_event.specs.Answering.{Answering, Sending, after_finish, beginning, can_cut, commit_by, cut_room, is_full, is_short, length_reply, output_limit, passes_length, push_byte, push_bytes, set_length_of}
+use Rattle.cy_event.specs.AnswerBytes.{answer_bytes, bytes_so_far, content_text, known_length}
 use Rattle.cy_event.specs.BodyGrammar.{IsBody}
 use Rattle.cy_event.specs.Heads.{front_length}
 use Rattle.cy_event.specs.declared.framing.Framing.TheVariants as framing
@@ -12,7 +13,7 @@ use Rattle.cy_respond.specs.Fields.{field_size, is_status, may_stand}
 use Rattle.cy_respond.specs.declared.head.TheConstants.{FIELD_LIMIT, FIELD_SIZE_LIMIT}
 use Rattle.cy_out.specs.Calls.{Call, UnderWay, aborts, after_call, after_calls, begun, changes, sending, sets_close, sets_length}
 use Rattle.cy_out.specs.Exchanges.{Act, Exchange, after_acts, finished, head_moment, is_out, marks_of, written}
-use Rattle.cy_out.specs.Pieces.{EndsAt, IsCut, IsPiece, Mark, content_put, cut_pieces, is_cut_early, pieces_behind, runs_behind}
+use Rattle.cy_event.specs.Pieces.{EndsAt, IsCut, IsPiece, Mark, content_put, cut_pieces, is_cut_early, pieces_behind, runs_behind}
 use Rattle.cy_out.specs.Kept.{CanFinish}
 
 -- ---- what is taken
@@ -57,10 +58,6 @@ PiecesHaveBytes = (run : List ℕ) (marks : List Mark) → All IsPiece (pieces_b
 abbrev pub PiecesEndAtCuts : Type 0
 PiecesEndAtCuts = (run : List ℕ) (marks : List Mark) (place : ℕ) → EndsAt (pieces_behind run marks) place ↔ IsCut (runs_behind run marks) place
 
--- what these pieces and the end of the content are written as
-abbrev pub content_text : Mode → List (List ℕ) → List ℕ
-content_text mode pieces = flat_map (piece_text mode) pieces ++ last_text mode
-
 -- Behind a head that is out the pieces follow, and what ends the content.
 abbrev pub PiecesFollowTheHead : Type 0
 PiecesFollowTheHead =
@@ -71,17 +68,6 @@ PiecesFollowTheHead =
     ≡ written x ++ content_text mode (pieces_behind x.answering.sending.waiting (marks_of head acts x))
 
 -- ---- whole answers
-
--- The length that a head knows: where something is cut before the end, the one that was set, if one was; else that of
--- the whole content, if none was set.
-abbrev pub known_length : Bool → Option ℕ → ℕ → Option ℕ
-known_length true set_length size = set_length
-known_length false set_length size = Some (unwrap_or set_length size)
-
--- the bytes of an answer: its head, which knows this length and is of this moment, and behind it the content in pieces
-abbrev pub answer_bytes : Answer → Asked → Option ℕ → ℕ → List (List ℕ) → List ℕ
-answer_bytes head asked known moment pieces =
-    head_of_shape head (shape_of asked head.status known) moment ++ content_text (mode_of asked head.status known) pieces
 
 -- the length that the head of this answer knows, of which nothing is out
 abbrev pub head_length : Answer → List Act → Exchange → Option ℕ
@@ -126,18 +112,16 @@ AllCallsMakeOneAnswer =
     → IsOneAnswer (received ++ output) at (after_calls calls (begun asked received output))
 
 -- what of it is written already, where its head is out: the head, and what was cut
-abbrev pub bytes_so_far : ℕ → UnderWay → List ℕ
-bytes_so_far at u =
-    let known = length_under_way u in
-    head_of_shape u.head (shape_of (sending u).asked u.head.status known) (unwrap_or u.moment at)
-    ++ flat_map (piece_text (mode_of (sending u).asked u.head.status known)) (cut_pieces [] u.marks)
+abbrev pub so_far_under_way : ℕ → UnderWay → List ℕ
+so_far_under_way at u =
+    bytes_so_far u.head (sending u).asked (length_under_way u) (unwrap_or u.moment at) (cut_pieces [] u.marks)
 
 -- Whatever is called, from the first cut on all is written that was cut, and no more: the rest of the content waits.
 abbrev pub AllCallsWriteWhatIsCut : Type 0
 AllCallsWriteWhatIsCut =
     (asked : Asked) (received output : List ℕ) (calls : List Call) (at : ℕ)
     → (let u = after_calls calls (begun asked received output) in
-    is_out u.exchange ≡ true → u.is_given_up ≡ false → written u.exchange ≡ (received ++ output) ++ bytes_so_far at u)
+    is_out u.exchange ≡ true → u.is_given_up ≡ false → written u.exchange ≡ (received ++ output) ++ so_far_under_way at u)
 
 -- Where an answer is given up whose head is out, nothing more is written for it, whatever is called then, by its end
 -- either.

@@ -1,7 +1,6 @@
 pub mod Told
 pub mod Kept
 pub mod Pushing
-pub mod Pieces
 pub mod Exchanges
 pub mod Calls
 pub mod Laws

@@ -1,5 +1,7 @@
 mod calls;
 
+ghost use Rattle.cy_out.specs.Kept.{CanFinish, answering_with};
+
 use super::*;
 use cy_event::Reply;
 use cy_respond::RespHead;
@@ -70,6 +72,17 @@ fn answer_row(
     }
 }
 
+/// Flushes, where a row says so.
+fn flush_where(flushed: bool, body: &mut BodyOut, head: &RespHead, kit: &mut ConnKit) -> Reply
+    ensures room { CanFinish (answering_with body.old kit.old) → CanFinish (answering_with body.new kit.new) }
+{
+    if flushed {
+        body.flush(0, head, kit)
+    } else {
+        Reply::Done
+    }
+}
+
 fn is_sent(rt: &impl Abort, alloc: Global, row: &Row) -> Result<(), Fail> {
     let mut body = BodyOut::new(alloc)?;
     let mut head = RespHead::new(alloc)?;
@@ -80,9 +93,10 @@ fn is_sent(rt: &impl Abort, alloc: Global, row: &Row) -> Result<(), Fail> {
         assert_eq!(rt; body.set_length(length), Reply::Done);
     }
     assert_eq!(rt; body.write(b"ab", 0, &head, &mut kit), Reply::Taken(2));
-    if row.flushed {
-        assert_eq!(rt; body.flush(0, &head, &mut kit), Reply::Done);
-    }
+    assert_eq!(rt;
+        flush_where(row.flushed, &mut body, &head, &mut kit),
+        Reply::Done
+    );
     assert_eq!(rt; body.committed(), row.flushed);
     assert_eq!(rt; body.write(b"c", 0, &head, &mut kit), Reply::Taken(1));
     let finished = body.finish(0, &head, &mut kit);

@@ -6,5 +6,5 @@ use Rattle.cy_rings.specs.declared.kit.ConnKit.{ConnKit}
 use Rattle.cy_rings.specs.contracts.kit.ConnKit.{the_row}
 
 -- it holds what it held
-abbrev pub Rests : MutBor ConnKit → Fml
-Rests kit = follows_so the_row the_row kit.ghost_name none (λ _ _. ⊤) (λ after. after ≡ kit.now)
+abbrev pub IsGivenBack : MutBor ConnKit → Fml
+IsGivenBack kit = follows_so the_row the_row kit.ghost_name none (λ _ _. ⊤) (λ after. after ≡ kit.now)

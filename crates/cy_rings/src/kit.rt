@@ -35,7 +35,7 @@ impl Model for ConnKit {
 }
 
 impl ConnKit {
-    ghost use Rattle.cy_rings.specs.Lending.{Rests};
+    ghost use Rattle.cy_rings.specs.Lending.{IsGivenBack};
 
     /// Two empty rings, with all the memory that they will ever need.
     ///
@@ -80,7 +80,7 @@ impl ConnKit {
     pub fn in_front(&mut self) -> &[u8]
         ensures held { result.now ≡ self.old.input }
         ensures within { length result.now ≤ IN_CAPACITY }
-        ensures* rests { sem 𝓛 (Rests self.entry) }
+        ensures* given_back { sem 𝓛 (IsGivenBack self.entry) }
     {
         self.input.as_slice()
     }
@@ -121,7 +121,7 @@ impl ConnKit {
     pub fn out_front(&mut self) -> &[u8]
         ensures held { result.now ≡ self.old.output }
         ensures within { length result.now ≤ OUT_CAPACITY }
-        ensures* rests { sem 𝓛 (Rests self.entry) }
+        ensures* given_back { sem 𝓛 (IsGivenBack self.entry) }
     {
         self.output.as_slice()
     }

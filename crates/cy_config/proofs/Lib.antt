@@ -1,0 +1,5 @@
+pub mod Refused
+pub mod Taken
+pub mod RulesRead
+pub mod Inserted
+pub mod PrintedBack

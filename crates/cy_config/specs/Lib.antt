@@ -1,0 +1,5 @@
+pub mod Members
+pub mod Kept
+pub mod Meaning
+pub mod Texts
+pub mod Printing

@@ -1,0 +1,60 @@
+-- The marks that no entry makes yet, since what makes them isn't built. Where it is built, its line goes.
+use Rattle.std.specs.Prelude.{◌≡◌, ℕ, Bool, true, false, not, ◌||◌, ◌==◌, All}
+use Rattle.cy_event.specs.declared.steps.Call.{Call}
+use Rattle.cy_event.specs.declared.steps.Call.TheVariants as call
+use Rattle.cy_event.specs.declared.steps.CloseCause.{CloseCause}
+use Rattle.cy_event.specs.declared.steps.CloseCause.TheVariants as cause
+use Rattle.cy_event.specs.declared.steps.Job.{Job}
+use Rattle.cy_event.specs.declared.steps.Job.TheVariants as job
+use Rattle.cy_model.specs.Marks.{Mark, TakenUp, Trace, began, called, started, parked, given, end_given, listened, timeout_set, read_listener_set, write_listener_set, not_ready, status_set, field_added, length_set, answer_reset, flushed, nothing_to_flush, error_answer, aborted, caused, broken}
+use Rattle.cy_model.specs.Verdicts.{is_framed, is_head_method, not_found_status}
+
+-- requests with a body, and requests of HEAD
+abbrev pub is_unbuilt_request : TakenUp → Bool
+is_unbuilt_request r = is_framed r.framing || is_head_method r.head
+
+-- calls of the state table but those of a service that returns
+abbrev pub is_unbuilt_call : Call → Bool
+is_unbuilt_call call.Run = false
+is_unbuilt_call call.Return = false
+is_unbuilt_call k = true
+
+-- callbacks but the service
+abbrev pub is_unbuilt_job : Job → Bool
+is_unbuilt_job (job.Service part) = false
+is_unbuilt_job j = true
+
+-- causes but those of a head, of an answer that says so, and of the end of the input
+abbrev pub is_unbuilt_cause : CloseCause → Bool
+is_unbuilt_cause cause.Refused = false
+is_unbuilt_cause cause.LastAnswer = false
+is_unbuilt_cause cause.InputEnd = false
+is_unbuilt_cause k = true
+
+abbrev pub is_unbuilt : Mark → Bool
+is_unbuilt (began r) = is_unbuilt_request r
+is_unbuilt (called k part) = is_unbuilt_call k
+is_unbuilt (started j) = is_unbuilt_job j
+is_unbuilt (parked side) = true
+is_unbuilt (given n) = true
+is_unbuilt end_given = true
+is_unbuilt (listened tag) = true
+is_unbuilt (timeout_set ms) = true
+is_unbuilt read_listener_set = true
+is_unbuilt write_listener_set = true
+is_unbuilt (not_ready side) = true
+is_unbuilt (status_set status) = true
+is_unbuilt (field_added field) = true
+is_unbuilt (length_set n) = true
+is_unbuilt answer_reset = true
+is_unbuilt flushed = true
+is_unbuilt nothing_to_flush = true
+is_unbuilt (error_answer status) = not (status == not_found_status)
+is_unbuilt aborted = true
+is_unbuilt (caused k) = is_unbuilt_cause k
+is_unbuilt broken = true
+is_unbuilt m = false
+
+-- none of them stands in the trace
+abbrev pub NothingUnbuilt : Trace → Type 0
+NothingUnbuilt T = All (λ (m : ℕ × Mark). is_unbuilt m.1 ≡ false) T

@@ -1,0 +1,5 @@
+use Rattle.cy_poll.proofs.Lost.{who_waits}
+use Rattle.cy_poll.proofs.laws.events_give_who_waits.Goals as goal
+
+pub returns : goal.returns
+returns c = who_waits

@@ -1,0 +1,5 @@
+use Rattle.cy_poll.proofs.Untold.{keeps_untold}
+use Rattle.cy_poll.proofs.laws.what_is_kept_is_untold.Goals as goal
+
+pub returns : goal.returns
+returns c = keeps_untold
