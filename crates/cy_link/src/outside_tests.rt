@@ -3,8 +3,10 @@
 use super::*;
 use std::alloc::{AllocError, Global};
 use std::sync::atomic::{AtomicU64, Ordering};
+use std::sync::{Arc, Wait};
 use std::test::Fail;
 use std::thread;
+use std::thread::Scope;
 
 /// One read into a slice of so many zeros: the answer, and the slice afterwards.
 fn read_once<L: Link>(alloc: Global, link: &mut L, len: usize) -> Result<(Read, Vec<u8>), Fail> {
@@ -67,7 +69,10 @@ fn a_link_reads_its_pieces_but_for_pauses_and_faults(rt: HostRuntime) -> Result<
         let (got, into) = read_once(alloc, &mut link, len)?;
         assert_eq!(rt; got, answer);
         assert_eq!(rt; into.as_slice(), bytes);
-        assert_eq!(rt; (link.in_faults(), link.out_faults(), link.pauses()), (faults, 0, pauses));
+        assert_eq!(rt;
+            (link.in_faults(), link.out_faults(), link.pauses()),
+            (faults, 0, pauses)
+        );
     }
     Ok(())
 }
@@ -84,7 +89,10 @@ fn a_link_takes_bytes_but_for_pauses_and_faults(rt: HostRuntime) -> Result<(), F
     for (bytes, answer, taken, faults, pauses) in rows {
         assert_eq!(rt; write_once(&mut link, bytes), answer);
         assert_eq!(rt; link.taken(), taken);
-        assert_eq!(rt; (link.in_faults(), link.out_faults(), link.pauses()), (0, faults, pauses));
+        assert_eq!(rt;
+            (link.in_faults(), link.out_faults(), link.pauses()),
+            (0, faults, pauses)
+        );
     }
     Ok(())
 }
@@ -158,7 +166,10 @@ fn a_readiness_tells_of_its_places_in_turn(rt: HostRuntime) -> Result<(), Fail> 
 fn a_clock_gives_its_moments_and_then_the_last(rt: HostRuntime) -> Result<(), Fail> {
     let alloc = rt.alloc();
     let mut clock = ListClock::new(vec![in alloc; 7, 3]?);
-    assert_eq!(rt; (clock.now(), clock.now(), clock.now(), clock.now()), (7, 3, 3, 3));
+    assert_eq!(rt;
+        (clock.now(), clock.now(), clock.now(), clock.now()),
+        (7, 3, 3, 3)
+    );
     let mut empty = ListClock::new(Vec::new(alloc));
     assert_eq!(rt; (empty.now(), empty.now()), (0, 0));
     Ok(())
@@ -166,15 +177,45 @@ fn a_clock_gives_its_moments_and_then_the_last(rt: HostRuntime) -> Result<(), Fa
 
 /// Work that adds a number to a sum.
 #[derive(Drop)]
-struct Adds<'a> {
-    sum: &'a AtomicU64,
+struct Adds {
+    sum: Arc<AtomicU64, Global>,
     number: u64,
 }
 
-impl<'a> Task for Adds<'a> {
+impl Task for Adds {
     fn run(self) {
         self.sum.fetch_add(self.number, Ordering::SeqCst);
     }
+}
+
+/// Starts work that adds this number, and answers the number where the work came back.
+fn start_one<P: Spawner<Adds>>(
+    spawner: &mut P,
+    sum: &Arc<AtomicU64, Global>,
+    number: u64,
+) -> Result<Option<u64>, AllocError>
+    requires { P.can_start spawner.old }
+    ensures { P.can_start spawner.new }
+{
+    let sum = Arc::try_clone(sum)?;
+    let back = spawner.start(Adds { sum, number });
+    Ok(back.map(|work| work.number))
+}
+
+/// Starts three threads of a scope, but for the starts of these numbers: what came back, and the faults.
+fn start_three<'s, E, H: Wait + Sync>(
+    rt: &'s H,
+    alloc: Global,
+    scope: &Scope<'s, E>,
+    sum: &Arc<AtomicU64, Global>,
+    failing: Vec<u64>,
+) -> Result<([Option<u64>; 3], u64), AllocError> {
+    let start = |work: Adds| start_in(rt, alloc, scope, work);
+    let mut spawner = MemSpawner::new(ScopeSpawner::new(start), failing);
+    let first = start_one(&mut spawner, sum, 1)?;
+    let second = start_one(&mut spawner, sum, 10)?;
+    let third = start_one(&mut spawner, sum, 100)?;
+    Ok(([first, second, third], spawner.faults()))
 }
 
 #[test]
@@ -182,25 +223,14 @@ fn threads_of_a_scope_do_their_work_but_for_the_starts_that_fail(
     rt: HostRuntime,
 ) -> Result<(), Fail> {
     let alloc = rt.alloc();
-    let sum = AtomicU64::new(0);
+    let sum = Arc::new(alloc, AtomicU64::new(0))?;
     let shared = &sum;
     let handle = &rt;
     let failing = vec![in alloc; 1]?;
-    let (backs, faults) = thread::scope(thread::scope_env(), &rt, move |scope| {
-        let start = |work: Adds<'_>| start_in(handle, alloc, scope, work);
-        let mut spawner = MemSpawner::new(ScopeSpawner::new(start), failing);
-        let mut backs = 0u64;
-        for number in [1u64, 10, 100] {
-            if let Some(work) = spawner.start(Adds {
-                sum: shared,
-                number,
-            }) {
-                backs += work.number;
-            }
-        }
-        (backs, spawner.faults())
+    let done = thread::scope(thread::scope_env(), &rt, move |scope| {
+        start_three(handle, alloc, scope, shared, failing)
     });
-    assert_eq!(rt; (backs, faults), (10, 1));
+    assert_eq!(rt; done, Ok(([None, Some(10), None], 1)));
     assert_eq!(rt; sum.load(Ordering::SeqCst), 101);
     Ok(())
 }
