@@ -139,7 +139,7 @@ def main():
         else:
             source = set(re.findall(r"\w+", "\n".join(text for path, text in sources.items() if path.is_relative_to(page.parent) and "proofs" not in path.parts)))
             check_tables(page, page.read_text(encoding="utf-8"), source)
-        if "| [%s](" % name not in top.read_text(encoding="utf-8"):
+        if "[%s](crates/%s/README.md)" % (name, name) not in top.read_text(encoding="utf-8"):
             fault(top, "the table of crates has no line for %s" % name)
     if len(top.read_text(encoding="utf-8").splitlines()) > MOST_LINES:
         fault(top, "more than %d lines" % MOST_LINES)
