@@ -100,8 +100,15 @@ def drawn():
     below = reduced({name: it for name, it in own.items() if name not in benches})
     programs = [name for name in below if (ROOT / "crates" / name / "src/main.rt").exists()]
     joined = set(programs).union(*(reached(own, name) for name in programs))
-    rows, layer = layers_of(below)
-    at = place(rows, chains := chains_of(below, layer, rows))
+    stood_on = {it for own_below in below.values() for it in own_below}
+    alone = [name for name in below if not below[name] and name not in stood_on]
+    rows, layer = layers_of({name: it for name, it in below.items() if name not in alone})
+    at = place(rows, chains := chains_of({name: below[name] for name in layer}, layer, rows))
+    middle = (min(at[name] for name in layer) + max(at[name] for name in layer)) / 2
+    # what neither stands on another crate nor has one above it stands in a row of its own, below the others
+    for i, name in enumerate(alone):
+        at[name] = middle + (i - (len(alone) - 1) / 2) * (WIDTH + GAP)
+        layer[name] = -1
     edge = lambda it: WIDTH / 2 if it in below else 0
     left = min(x - edge(it) for it, x in at.items()) - 20
     width = max(x + edge(it) for it, x in at.items()) + 20 - left
@@ -125,11 +132,12 @@ def drawn():
         lines.append(box(x - WIDTH / 2, y, WIDTH, HEIGHT, kind if name in joined else kind + " apart"))
         lines.append(text(x, y + (21 if kit[name] else 29), name, 15, bold=name in programs))
         if kit[name]:
-            lines.append(text(x, y + 38, " ".join(kit[name]), 10.5 if len(" ".join(kit[name])) < 22 else 8.5, "small"))
-    height = 24 + len(rows) * STEP - (STEP - HEIGHT) + 56
+            used = " ".join(kit[name])
+            lines.append(text(x, y + 38, used, min(10.5, round(205 / len(used), 1)), "small"))
+    height = 24 + (len(rows) + bool(alone)) * STEP - (STEP - HEIGHT) + 56
     notes = ["An arrow: stands on. Beneath a name: crates of the kit. Broken border: no program stands on it yet."]
     if benches:
-        notes.append("Left out: arrows that follow from others, and %s, which runs parts to measure them." % ", ".join(benches))
+        notes.append("Left out: arrows that follow from others, and programs that measure parts (%s)." % ", ".join(benches))
     for i, note in enumerate(notes):
         lines.append(text(width / 2, height - 30 + 18 * i, note, 12.5, "small"))
     return picture(width, height, "Which crate stands on which", lines)

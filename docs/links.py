@@ -9,6 +9,9 @@
 
 Usage: docs/links.py [--check]    status 1 where something is amiss; each fault is a line
 """
+import fnmatch
+import functools
+import os
 import re
 import sys
 from pathlib import Path
@@ -30,11 +33,21 @@ def fault(page, text):
     faults.append("%s: %s" % (page.relative_to(ROOT), text))
 
 
+@functools.lru_cache(maxsize=None)
+def every_file():
+    """All files of the repository, but for what is built, in order."""
+    found = []
+    for folder, folders, names in os.walk(ROOT):
+        folders[:] = sorted(it for it in folders if it not in ("out", ".git", "wip", "__pycache__"))
+        found += [Path(folder) / name for name in sorted(names)]
+    return found
+
+
+@functools.lru_cache(maxsize=None)
 def files(pattern):
-    return sorted(
-        path for path in ROOT.rglob(pattern)
-        if path.is_file() and not any(part in ("out", ".git", "wip") for part in path.relative_to(ROOT).parts)
-    )
+    """The files whose name, or whose path from the top, is of this pattern."""
+    at = (lambda path: path.relative_to(ROOT).as_posix()) if "/" in pattern else (lambda path: path.name)
+    return [path for path in every_file() if fnmatch.fnmatch(at(path), pattern)]
 
 
 def without_blocks(text):
@@ -100,7 +113,7 @@ def check_tables(page, text, source):
         cells = line.strip("| ").split(" | ")
         if line.startswith("| ") and len(cells) == 2 and cells[0] != "proved":
             for span in SPAN.findall(cells[1]):
-                for word in re.findall(r"\w+", span):
+                for word in [] if PATH.fullmatch(span) else re.findall(r"\w+", span):
                     if word not in source:
                         fault(page, "the crate has no name %s" % word)
 
@@ -126,7 +139,7 @@ def main():
         else:
             source = set(re.findall(r"\w+", "\n".join(text for path, text in sources.items() if path.is_relative_to(page.parent) and "proofs" not in path.parts)))
             check_tables(page, page.read_text(encoding="utf-8"), source)
-        if "| [%s](" % name not in top.read_text(encoding="utf-8"):
+        if "[%s](crates/%s/README.md)" % (name, name) not in top.read_text(encoding="utf-8"):
             fault(top, "the table of crates has no line for %s" % name)
     if len(top.read_text(encoding="utf-8").splitlines()) > MOST_LINES:
         fault(top, "more than %d lines" % MOST_LINES)

@@ -6,7 +6,7 @@ Usage: docs/trace.py [--check]    with --check nothing is written; status 1 wher
 import sys
 
 from drawing import arrow, box, picture, text
-from generated import DOCS, ROOT, settle, spec_file
+from generated import DOCS, settle, spec_file, spec_files
 
 PICTURE = DOCS / "trace.svg"
 
@@ -31,12 +31,12 @@ def square(lines, x, y, kind, title, under):
 
 
 def drawn():
-    known = {word.name for word in spec_file(ROOT / "crates/cy_model/specs/Folds.antt")[1]}
+    known = {word.name for path in spec_files("cy_model") for word in spec_file(path)[1]}
     for name, _ in FOLDS:
         if name not in known:
-            sys.exit("trace: cy_model/specs/Folds.antt has no word %s" % name)
+            sys.exit("trace: cy_model has no word %s" % name)
     lines = []
-    columns = [(24, 220, "trace: what happened", "all of it; no code has it"), (330, 250, "folds: what it says", "`cy_model/specs/Folds.antt`"), (666, 250, "parts: what the code keeps", "`Line` and `Processor` of cy_proc")]
+    columns = [(24, 220, "trace: what happened", "all of it; no code has it"), (330, 250, "folds: what it says", "words of cy_model"), (666, 250, "parts: what the code keeps", "`Line` and `Processor` of cy_proc")]
     for x, wide, title, under in columns:
         lines.append(text(x + wide / 2, 30, title, 15, bold=True))
         lines.append(text(x + wide / 2, 50, under, 12.5, "small"))

@@ -3,3 +3,4 @@ pub mod Taken
 pub mod RulesRead
 pub mod Inserted
 pub mod PrintedBack
+pub mod OutcomeLaws

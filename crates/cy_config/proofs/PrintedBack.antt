@@ -10,11 +10,12 @@ use Rattle.cy_map.specs.declared.rule.Rule.{Rule}
 use Rattle.cy_map.specs.Patterns.{is_pattern}
 use Rattle.cy_settings.specs.declared.limit.Limit.TheVariants.{MaxConnections, MaxHttpHeaderSize, MaxHeaderCount, MaxKeepAliveRequests, ConnectionTimeout, AsyncTimeout, MaxSwallowSize, MaxTrailerSize}
 use Rattle.cy_settings.specs.Rules.{AreRules, has_part, has_pattern, is_next_rule, parts_of}
+use Rattle.cy_settings.specs.Settings.{settings}
 use Rattle.cy_settings.proofs.RuleLists.{next_again}
 use Rattle.cy_config.specs.declared.fault.SetFault.{SetFault}
 use Rattle.cy_config.specs.Members.{elements, entries, is_table, members_in, rule}
 use Rattle.cy_config.specs.Meaning.{◌>>=◌, Values, is_rule_list, outcome, read_rule, read_rules, refusals_of, refused_key, too_many_threads, unless, values_of}
-use Rattle.cy_config.specs.Printing.{AreSettings, at_default_port, connector_of, printed, rule_table, told}
+use Rattle.cy_config.specs.Printing.{AreSettings, at_default_port, connector_of, members_with, printed, rule_table, told}
 use Rattle.cy_config.specs.Texts.{Means}
 use Rattle.cy_config.proofs.RulesRead.{not_true, rule_read}
 
@@ -104,3 +105,23 @@ means_back text values top are same utf8 parsed =
     let read : parse_document text ≡ Some (printed values) =
         subst (λ (ms : Members). members_depth ms ≤ 80 → parse_document text ≡ Some ms) same parsed (printed_depth values) in
     inl (printed values, record { utf8 = utf8; parsed = read }, sym (printed_back values are))
+
+-- ---- with the port
+
+keys_with_port_are_fine : (values : Values) → AreSettings values → values.port ≤ 65535 → filter_map refused_key (entries (connector_of values settings)) ≡ []
+keys_with_port_are_fine values are port =
+    rw (are.in_range AsyncTimeout, are.in_range ConnectionTimeout, are.in_range MaxConnections, are.in_range MaxHeaderCount, are.in_range MaxHttpHeaderSize,
+      are.in_range MaxKeepAliveRequests, are.in_range MaxSwallowSize, are.threads.most, are.in_range MaxTrailerSize, are.threads.least, le-leb 0 values.port (omega arith), le-leb values.port 65535 port) refl
+
+threads_with_port_are_fine : (values : Values) → AreSettings values → too_many_threads (connector_of values settings) ≡ []
+threads_with_port_are_fine values are = rw (le-leb _ _ are.threads.ordered) refl
+
+values_with_port_are_same : (values : Values) → AreSettings values → values_of (connector_of values settings) values.rules ≡ values
+values_with_port_are_same values are = rw (← are.parts) refl
+
+pub written_back : (values : Values) → AreSettings values → values.port ≤ 65535 → outcome (members_with settings values) ≡ Ok values
+written_back values are port =
+    all_fine _ _ _ _ _ _ refl refl (keys_with_port_are_fine values are port) (threads_with_port_are_fine values are) (list_is_fine values.rules are.taken.few)
+    ∙ ap (λ (ds : List Data). read_rules [] ds >>= (λ (read : List Rule). Ok (values_of (connector_of values settings) read))) (elements-items_of (map rule_table values.rules))
+    ∙ ap (λ (r : Result (List Rule) SetFault). r >>= (λ (read : List Rule). Ok (values_of (connector_of values settings) read))) (rules_read_back [] values.rules are.taken are.known_parts)
+    ∙ ap Ok (values_with_port_are_same values are)

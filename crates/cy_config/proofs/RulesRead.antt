@@ -1,6 +1,6 @@
 -- Rules that are read one after another.
 use Rattle.std.proofs.Common.{◌≡◌, ℕ, zero, suc, ◌+◌, ◌<◌, get_or, drop, map, Bool, true, false, cond, ◌&&◌, ◌||◌, not, ltb, List, [], ◌∷◌, ◌++◌, length, Result, Ok, Err, Ordering, Less, Equal, Greater, nat_cmp, Bor, refl, sym, ap, subst, ◌∙◌, arith}
-use Rattle.std.specs.Prelude.{bytes_eq, codes}
+use Rattle.std.specs.Prelude.{bytes_eq, codes, All, IsUtf8}
 use Rattle.std.specs.BTreeMap.{is_at}
 use Rattle.std.specs.BTreeSet.{insert_key}
 use Rattle.std.specs.Cmp.Lexicographic.{slice_cmp}
@@ -11,6 +11,7 @@ use Rattle.std.proofs.lemmas.List.Folds.{list_all-append, list_any-append}
 use Rattle.std.proofs.lemmas.Map.Text.{is_eq-slice_cmp}
 use Rattle.std.proofs.lemmas.Slice.Eq.{bytes_eq-Decides}
 use Rattle.std.proofs.lemmas.List.{drop_more}
+use Rattle.std.proofs.lemmas.List.Elements.{All-push}
 use Rattle.toml.specs.declared.value.Value.{Value}
 use Rattle.toml.specs.Data.{Data, Members}
 use Rattle.toml.specs.View.{view}
@@ -60,6 +61,9 @@ one_more_rule rules next are good fresh few =
 
 pub one_more_part : (rules : List Rule) (next : Rule) → list_all has_part rules ≡ true → has_part next ≡ true → list_all has_part (rules ++ next ∷ []) ≡ true
 one_more_part rules next all one = list_all-append has_part rules (next ∷ []) ∙ rw (all, one) refl
+
+pub one_more_text : (rules : List Rule) (next : Rule) → All (λ rule. IsUtf8 rule.pattern) rules → IsUtf8 next.pattern → All (λ rule. IsUtf8 rule.pattern) (rules ++ next ∷ [])
+one_more_text rules next all one = All-push (λ (rule : Rule). IsUtf8 rule.pattern) rules next all one
 
 -- ---- the set of patterns
 

@@ -3,3 +3,4 @@ pub mod Kept
 pub mod Meaning
 pub mod Texts
 pub mod Printing
+pub mod Refusals

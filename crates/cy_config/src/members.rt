@@ -1,5 +1,5 @@
 //! What stands in a table of TOML.
-ghost use Rattle.std.specs.Prelude.{◌≡◌, ◌++◌, IfOk, codes, option_map};
+ghost use Rattle.std.specs.Prelude.{◌≡◌, IfOk, IsUtf8, option_map};
 ghost use Rattle.std.specs.Option.{option_and_then};
 ghost use Rattle.toml.specs.Data.{get_member, as_integer};
 ghost use Rattle.toml.specs.View.{table_view, view};
@@ -62,7 +62,8 @@ pub(crate) fn in_rule(alloc: Global, number: usize, key: &str) -> Result<Bytes, 
 
 /// A text as bytes of its own.
 pub(crate) fn bytes_of(alloc: Global, text: &str) -> Result<Bytes, AllocError>
-    ensures { IfOk result (λ bytes. bytes ≡ text.now) }
+    ensures same { IfOk result (λ bytes. bytes ≡ text.now) }
+    ensures utf8 { IfOk result (λ bytes. IsUtf8 bytes) }
 {
     Ok(Bytes::of(Vec::from_slice(alloc, text.as_bytes())?))
 }

@@ -1,5 +1,5 @@
 //! Reading a text of settings.
-ghost use Rattle.std.specs.Prelude.{◌≡◌, IfOk, IfErr, Ok, Err};
+ghost use Rattle.std.specs.Prelude.{◌≡◌, All, IfOk, IfErr, IsUtf8, Ok, Err};
 ghost use Rattle.toml.specs.View.{table_view};
 ghost use Rattle.cy_config.specs.declared.fault.SetFault.TheVariants.{NotToml, NoMemory};
 ghost use Rattle.cy_config.specs.Meaning.{outcome};
@@ -26,6 +26,9 @@ pub fn read_settings(alloc: Global, bytes: &[u8]) -> Result<Settings, SetFault>
     // What is read is what the text means, and what is refused is its first refusal.
     ensures read { IfOk result (λ settings. Means bytes.now (Ok (shown settings))) }
     ensures refused { IfErr result (λ fault. ¬ (fault ≡ NoMemory) → Means bytes.now (Err fault)) }
+
+    // Its patterns are text, so that it can be written again.
+    ensures utf8 { IfOk result (λ settings. All (λ rule. IsUtf8 rule.pattern) settings.rules) }
 {
     let top = table_of(alloc, bytes)?;
     read_table(alloc, &top)
@@ -45,7 +48,8 @@ fn table_of(alloc: Global, bytes: &[u8]) -> Result<Table, SetFault>
 
 /// The settings of the table at the top.
 fn read_table(alloc: Global, top: &Table) -> Result<Settings, SetFault>
-    ensures { Reads shown result (outcome (table_view top.now)) }
+    ensures read { Reads shown result (outcome (table_view top.now)) }
+    ensures utf8 { IfOk result (λ settings. All (λ rule. IsUtf8 rule.pattern) settings.rules) }
 {
     check_top(alloc, top)?;
     let empty = Table::new(alloc);

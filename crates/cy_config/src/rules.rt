@@ -1,5 +1,5 @@
 //! The list `rule`: its tables, and the rules that they are.
-ghost use Rattle.std.specs.Prelude.{◌≡◌, ◌≤◌, [], length, map, vec_len, nat_le, ◌&&◌, true, false, IfOk, IfSome, Some, pos, codes, is_some};
+ghost use Rattle.std.specs.Prelude.{◌≡◌, ◌≤◌, [], length, map, vec_len, nat_le, ◌&&◌, true, false, All, IfOk, IsUtf8, IfSome, Some, pos, codes, is_some};
 ghost use Rattle.std.specs.List.{filter_map, list_all};
 ghost use Rattle.toml.specs.Data.{as_integer, get_member};
 ghost use Rattle.toml.specs.View.{table_view, view};
@@ -61,6 +61,7 @@ pub(crate) fn read_rules(alloc: Global, values: &[Value]) -> Result<Vec<Rule>, S
     ensures read { Reads (λ rules. rules.items) result (read_rules [] (map view values.now)) }
     ensures taken { IfOk result (λ rules. AreRules rules.items) }
     ensures known_parts { IfOk result (λ rules. list_all has_part rules.items ≡ true) }
+    ensures utf8 { IfOk result (λ rules. All (λ rule. IsUtf8 rule.pattern) rules.items) }
 {
     let mut rules = Vec::new(alloc);
     let mut patterns = BTreeSet::new(alloc);
@@ -105,6 +106,7 @@ fn read_rule(alloc: Global, number: usize, table: &Table) -> Result<Rule, SetFau
     ensures pattern { IfOk result (λ rule. rule.pattern ≡ pattern_of (table_view table.now)) }
     ensures good { IfOk result (λ rule. is_pattern rule.pattern ≡ true) }
     ensures part { IfOk result (λ rule. has_part rule ≡ true) }
+    ensures utf8 { IfOk result (λ rule. IsUtf8 rule.pattern) }
 {
     check_keys(alloc, number, table)?;
     let pattern = pattern_in(alloc, number, table)?;

@@ -153,7 +153,8 @@ pub(crate) fn settings_in(connector: &Table, rules: Vec<Rule>) -> Settings
     requires ordered { core_of (table_view connector.now) ≤ max_of (table_view connector.now) }
     requires rules { AreRules rules.items }
     requires parts { list_all has_part rules.items ≡ true }
-    ensures { shown result ≡ values_of (table_view connector.now) rules.items }
+    ensures shown { shown result ≡ values_of (table_view connector.now) rules.items }
+    ensures rules { result.rules ≡ rules.items }
 {
     let parts = parts_of(&rules);
     Settings {

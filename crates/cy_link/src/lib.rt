@@ -38,6 +38,6 @@ pub use source::{Read, Source};
 pub use task::{Spawner, Task};
 
 #[cfg(test)]
-mod link_tests;
+mod outside_tests;
 #[cfg(test)]
 mod tests;

@@ -6,6 +6,7 @@ use crate::calls::Calls;
 use crate::{Spawner, Task};
 
 /// A spawner over another, as one over a scope of threads, that hands the work of some starts back itself.
+#[derive(Drop)]
 pub struct MemSpawner<P> {
     inner: P,
     calls: Calls,

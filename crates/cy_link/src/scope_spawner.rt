@@ -40,6 +40,7 @@ fn take_back<H: Wait, W: Task + Drop>(rt: &H, shared: &Arc<Mutex<Option<W>>, Glo
 }
 
 /// A spawner that starts work by a closure, as one that calls `start_in` where a scope is opened.
+#[derive(Drop)]
 pub struct ScopeSpawner<W, F> {
     start: F,
     faults: u64,

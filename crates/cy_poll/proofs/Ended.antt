@@ -1,10 +1,11 @@
 -- Places that were given wait for nothing and aren't marked: one by one, and what is noted in the end.
-use Rattle.std.proofs.Common.{◌≡◌, ℕ, ◌<◌, Bool, true, false, cond, ◌||◌, ◌&&◌, not, eqb, List, [], ◌∷◌, ◌++◌, length, get_or, set, drop, take, replicate, refl, ap, sym, ◌∙◌, arith, inl, inr, ◌⊎◌}
+use Rattle.std.proofs.Common.{◌≡◌, ℕ, zero, suc, ◌<◌, ◌≤◌, Bool, true, false, cond, ◌||◌, ◌&&◌, not, eqb, List, [], ◌∷◌, ◌++◌, length, get_or, set, drop, take, replicate, refl, ap, sym, ◌∙◌, arith, inl, inr, ◌⊎◌}
+use Rattle.std.specs.Prelude.{All}
 use Rattle.std.proofs.Math.Bool.{or-false}
 use Rattle.std.proofs.Math.Seq.{take-append_seam}
-use Rattle.std.proofs.lemmas.Bool.{and_right, cases_eq, eq-eqb, ne_eqb, or_right}
+use Rattle.std.proofs.lemmas.Bool.{and_right, cases_eq, cases_lt, eq-eqb, false≢true, ne_eqb, or_left, or_right}
 use Rattle.std.proofs.lemmas.Grind.{get_or-set_at}
-use Rattle.std.proofs.lemmas.List.{ext_get_or, get_or-set_other, get_or-replicate, length-set, length-replicate}
+use Rattle.std.proofs.lemmas.List.{ext_get_or, get_or_past, get_or-set_other, get_or-replicate, length-set, length-replicate}
 use Rattle.cy_link.specs.declared.readiness.Ready.{Ready}
 use Rattle.cy_poll.specs.declared.kinds.Kinds.{Kinds}
 use Rattle.cy_poll.specs.declared.kinds.Note.{Note}
@@ -117,3 +118,20 @@ all_written len new old e = ap (λ (k : ℕ). take k (new ++ drop (length new) o
 pub front_given : (old : List Note) (es : List Ready) (into room : List ℕ) (count : ℕ) → count ≡ length (given old es) → into ≡ given old es ++ drop count room → take count into ≡ given old es
 front_given old es into room count e written =
     ap (λ (l : List ℕ). take count l) written ∙ ap (λ (k : ℕ). take k (given old es ++ drop count room)) e ∙ take-append_seam (given old es) (drop count room)
+
+-- an element is among the elements
+holds_at : (ns : List ℕ) (k d : ℕ) → k < length ns → holds ns (get_or ns k d) ≡ true
+holds_at [] k d h = absurd (omega arith)
+holds_at (n ∷ ns) zero d h = or_left (eqb n n) (holds ns n) (eq-eqb n n refl)
+holds_at (n ∷ ns) (suc k) d h = or_right (eqb n (get_or ns k d)) (holds ns (get_or ns k d)) (holds_at ns k d (omega arith))
+
+-- places that are given are in the table
+pub given_below : (old : List Note) (es : List Ready) → All (λ p. p < length old) (given old es)
+given_below old es k d h = below (get_or (given old es) k d) (holds_at (given old es) k d h)
+  where
+    by_order : (p : ℕ) → meets (note_of old p).wanted (came p es) ≡ true → (p < length old) ⊎ (length old ≤ p) → p < length old
+    by_order p waits (inl h) = h
+    by_order p waits (inr h) = absurd (false≢true (sym (ap (λ (n : Note). meets n.wanted (came p es)) (get_or_past old p no_note h)) ∙ waits))
+
+    below : (p : ℕ) → holds (given old es) p ≡ true → p < length old
+    below p held = by_order p (sym (holds-given old es p) ∙ held) (cases_lt p (length old))

@@ -1,5 +1,5 @@
 //! The table of interests.
-ghost use Rattle.std.specs.Prelude.{◌≡◌, ◌≤◌, ◌<◌, ◌++◌, ◌&&◌, false, true, not, if◌then◌else◌, IfOk, length, drop, replicate, slice_index_or, slice_set, take};
+ghost use Rattle.std.specs.Prelude.{◌≡◌, ◌≤◌, ◌<◌, ◌++◌, ◌&&◌, false, true, not, if◌then◌else◌, All, IfOk, length, drop, replicate, slice_index_or, slice_set, take};
 ghost use Rattle.cy_poll.specs.Kinds.{kinds_in, meets};
 ghost use Rattle.cy_poll.specs.Notes.{after_want, no_note, note_of};
 ghost use Rattle.cy_poll.specs.Runs.{IsTurn, forgotten, sorted, wanted};
@@ -50,6 +50,7 @@ impl Interests {
         requires { place < length self.old }
         ensures kept { result ≡ meets (note_of self.old place).kept (record { read = read; write = write }) }
         ensures notes { self.new ≡ slice_set self.old place (after_want (note_of self.old place) (record { read = read; write = write })) }
+        ensures places { length self.new ≡ length self.old }
         ensures turn { IsTurn self.old (wanted place (record { read = read; write = write }) result) self.new }
     {
         let kinds = Kinds { read, write };
@@ -73,6 +74,7 @@ impl Interests {
     pub fn forget(&mut self, place: u32)
         requires { place < length self.old }
         ensures notes { self.new ≡ slice_set self.old place no_note }
+        ensures places { length self.new ≡ length self.old }
         ensures turn { IsTurn self.old (forgotten place) self.new }
     {
         self.notes[place as usize] = Note::NONE;
@@ -84,8 +86,11 @@ impl Interests {
     pub fn sort_events(&mut self, events: &[Ready], into: &mut [u32]) -> usize
         requires { length into.old ≡ length events.now }
         ensures count { result ≡ length (given self.old events.now) }
+        ensures fits { result ≤ length events.now }
         ensures given { into.new ≡ given self.old events.now ++ drop result into.old }
+        ensures below { All (λ p. p < length self.old) (take result into.new) }
         ensures notes { AreSorted self.old events.now self.new }
+        ensures places { length self.new ≡ length self.old }
         ensures turn { IsTurn self.old (sorted events.now (take result into.new)) self.new }
     {
         let notes = self.notes.as_mut_slice();
@@ -122,6 +127,7 @@ fn note_events(notes: &mut [Note], marks: &mut [bool], events: &[Ready], into: &
     requires marks { marks.old ≡ replicate (length notes.old) false }
     requires room { length into.old ≡ length events.now }
     ensures count { result ≡ length (given notes.old events.now) }
+    ensures fits { result ≤ length events.now }
     ensures given { into.new ≡ given notes.old events.now ++ drop result into.old }
     ensures noted { AreNoted notes.old events.now notes.new }
     ensures marks { AreMarks (length notes.old) (given notes.old events.now) marks.new }

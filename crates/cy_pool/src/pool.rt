@@ -87,6 +87,8 @@ impl Slip {
 }
 
 impl Pool {
+    ghost use Rattle.cy_pool.specs.Stocks.{IsSeatOf};
+
     /// All numbers below `slots`, in the pool, with the right to make its seats. This alone takes memory.
     pub fn new(alloc: Global, slots: u32) -> Result<(Pool, Keeper), NoMemory>
         requires { 0 < slots }
@@ -126,11 +128,11 @@ impl Pool {
 
     /// Draws a number. `None` only where none was in the pool at a moment of this call.
     pub fn take<H: Wait>(&self, rt: &H, seat: &mut Seat) -> Option<Slip>
-        requires made { (seat.old.name ≡ self.now.name) × (seat.old.slots ≡ self.now.slots) }
+        requires made { IsSeatOf self.now seat.old }
         requires idle { seat.old.slip ≡ None }
         ensures some { IfSome result (λ slip. (seat.new.slip ≡ Some slip) × (slip < self.now.slots)) }
         ensures none { IfNone result (seat.new.slip ≡ None) }
-        ensures seat { (seat.new.name ≡ seat.old.name) × (seat.new.slots ≡ seat.old.slots) }
+        ensures seat { IsSeatOf self.now seat.new }
     {
         let number = self.numbers.pop_as::<Takes, H>(rt, &mut seat.pass)?;
         Some(Slip { number })
@@ -138,7 +140,7 @@ impl Pool {
 
     /// Puts the number of a slip back.
     pub fn give<H: Wait>(&self, rt: &H, seat: &mut Seat, slip: Slip)
-        requires made { (seat.old.name ≡ self.now.name) × (seat.old.slots ≡ self.now.slots) }
+        requires made { IsSeatOf self.now seat.old }
         requires out { seat.old.slip ≡ Some slip }
         ensures { seat.new ≡ record { name = seat.old.name; slots = seat.old.slots; slip = None } }
     {

@@ -1,5 +1,5 @@
 // The slips of a pool for two places, and threads that take and give.
-ghost use Rattle.std.specs.Prelude.{◌≡◌, None};
+ghost use Rattle.cy_pool.specs.Stocks.{IsIdleSeatOf};
 
 use super::*;
 use std::alloc::{AllocError, Global};
@@ -37,7 +37,7 @@ fn take_and_give<H: Wait>(
     mut seat: Seat,
     rounds: u32,
 ) -> u32
-    requires { (seat.name ≡ pool.now.name) × (seat.slots ≡ pool.now.slots) × (seat.slip ≡ None) }
+    requires { IsIdleSeatOf pool.now seat }
 {
     let mut alone = 0u32;
     for _ in 0..rounds {
@@ -77,28 +77,28 @@ fn four_threads_take_and_give(rt: HostRuntime) -> Result<(), Fail> {
     let ((a, b), (c, d)) = thread::join(
         &rt,
         move ||
-            requires { (one.name ≡ shared.now.name) × (one.slots ≡ shared.now.slots) × (one.slip ≡ None) × (two.name ≡ shared.now.name) × (two.slots ≡ shared.now.slots) × (two.slip ≡ None) }
+            requires { IsIdleSeatOf shared.now one × IsIdleSeatOf shared.now two }
         {
             thread::join(
                 handle,
                 move ||
-                    requires { (one.name ≡ shared.now.name) × (one.slots ≡ shared.now.slots) × (one.slip ≡ None) }
+                    requires { IsIdleSeatOf shared.now one }
                 { take_and_give(handle, shared, busy, one, 25000) },
                 move ||
-                    requires { (two.name ≡ shared.now.name) × (two.slots ≡ shared.now.slots) × (two.slip ≡ None) }
+                    requires { IsIdleSeatOf shared.now two }
                 { take_and_give(handle, shared, busy, two, 25000) },
             )
         },
         move ||
-            requires { (three.name ≡ shared.now.name) × (three.slots ≡ shared.now.slots) × (three.slip ≡ None) × (four.name ≡ shared.now.name) × (four.slots ≡ shared.now.slots) × (four.slip ≡ None) }
+            requires { IsIdleSeatOf shared.now three × IsIdleSeatOf shared.now four }
         {
             thread::join(
                 handle,
                 move ||
-                    requires { (three.name ≡ shared.now.name) × (three.slots ≡ shared.now.slots) × (three.slip ≡ None) }
+                    requires { IsIdleSeatOf shared.now three }
                 { take_and_give(handle, shared, busy, three, 25000) },
                 move ||
-                    requires { (four.name ≡ shared.now.name) × (four.slots ≡ shared.now.slots) × (four.slip ≡ None) }
+                    requires { IsIdleSeatOf shared.now four }
                 { take_and_give(handle, shared, busy, four, 25000) },
             )
         },

@@ -1,10 +1,10 @@
 // The answers of a queue for two places, and threads that share one.
+ghost use Rattle.std.specs.Prelude.{◌≡◌};
+
 use super::*;
-use std::alloc::Global;
 use std::sync::Wait;
 use std::test::Fail;
 use std::thread;
-use std::thread::Threads;
 
 #[test]
 fn a_place_stands_once_and_none_enters_after_the_close(rt: HostRuntime) -> Result<(), Fail> {
@@ -72,16 +72,22 @@ fn two_threads_put_and_two_take_each_once(rt: HostRuntime) -> Result<(), Fail> {
     let two = vec![in alloc; 0u32; 1000]?;
     let (entered, (one, two)) = thread::join(
         &rt,
-        || {
+        ||
+            requires { shared.now.places ≡ 1000 }
+        {
             let (even, odd) = thread::join(
                 handle,
-                || put_each_second(handle, shared, 0),
-                || put_each_second(handle, shared, 1),
+                ||
+                    requires { shared.now.places ≡ 1000 }
+                { put_each_second(handle, shared, 0) },
+                ||
+                    requires { shared.now.places ≡ 1000 }
+                { put_each_second(handle, shared, 1) },
             );
             shared.close(handle);
             even.saturating_add(odd)
         },
-        || {
+        move || {
             thread::join(
                 handle,
                 move || take_all(handle, shared, one),

@@ -11,19 +11,20 @@ use Rattle.cy_event.specs.declared.steps.Event.TheVariants as event
 use Rattle.cy_event.specs.declared.steps.Step.{Step}
 use Rattle.cy_event.specs.declared.steps.Step.TheVariants as step
 use Rattle.cy_script.specs.declared.script.Script.{Script}
-use Rattle.cy_script.specs.declared.settings.Setting.{Setting}
-use Rattle.cy_script.specs.declared.settings.Setting.TheVariants.{MaxConnections, MaxHttpHeaderSize, MaxHeaderCount, MaxKeepAliveRequests, ConnectionTimeout, AsyncTimeout, MaxSwallowSize, MaxTrailerSize}
+use Rattle.cy_settings.specs.declared.limit.Limit.{Limit}
+use Rattle.cy_settings.specs.declared.limit.Limit.TheVariants.{MaxConnections, MaxHttpHeaderSize, MaxHeaderCount, MaxKeepAliveRequests, ConnectionTimeout, AsyncTimeout, MaxSwallowSize, MaxTrailerSize}
 use Rattle.cy_script.specs.declared.statements.Statement.{Statement}
 use Rattle.cy_script.specs.declared.statements.Statement.TheVariants as statement
-use Rattle.cy_script.specs.Conditions.{has_part, AreRules, AreSteps}
+use Rattle.cy_script.specs.Conditions.{AreSteps}
 use Rattle.cy_script.specs.Kept.{has_its_bytes, AreLimits, IsKeepAlive, IsScript}
 use Rattle.cy_script.specs.Lines.{IsStepLine, IsWritten}
 use Rattle.cy_script.specs.Settings.{with_setting, IsInRange}
+use Rattle.cy_settings.specs.Rules.{has_part, AreRules}
 use Rattle.cy_script.specs.Spelling.{limits_after, rule_of, step_of, IsScriptText}
 
 -- ---- limits
 
-set_kept : (setting : Setting) (value : ℕ) (limits : Limits) → IsInRange setting value → AreLimits limits → AreLimits (with_setting setting value limits)
+set_kept : (setting : Limit) (value : ℕ) (limits : Limits) → IsInRange setting value → AreLimits limits → AreLimits (with_setting setting value limits)
 set_kept MaxConnections value limits range are = assumption
 set_kept MaxHttpHeaderSize value limits range are = assumption
 set_kept MaxHeaderCount value limits range are = assumption

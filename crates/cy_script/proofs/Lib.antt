@@ -4,7 +4,7 @@ pub mod Quoted
 pub mod FieldsRead
 pub mod StepLines
 pub mod StatementLines
-pub mod RuleLists
+pub mod StepLists
 pub mod Sayings
 pub mod Scripts
 pub mod KeptBy

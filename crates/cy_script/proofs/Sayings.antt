@@ -9,16 +9,18 @@ use Rattle.cy_event.specs.declared.limits.Limits.{Limits}
 use Rattle.cy_event.specs.declared.steps.Step.{Step}
 use Rattle.cy_map.specs.declared.rule.Rule.{Rule}
 use Rattle.cy_script.specs.declared.script.Script.{Script}
-use Rattle.cy_script.specs.declared.settings.Setting.{Setting}
+use Rattle.cy_settings.specs.declared.limit.Limit.{Limit}
 use Rattle.cy_script.specs.declared.statements.Statement.{Statement}
 use Rattle.cy_script.specs.declared.statements.Statement.TheVariants as statement
-use Rattle.cy_script.specs.Conditions.{AreRules, AreSteps}
+use Rattle.cy_script.specs.Conditions.{AreSteps}
 use Rattle.cy_script.specs.Lines.{IsWritten}
-use Rattle.cy_script.specs.Reading.{after_lines, after_statement, are_steps, before_steps, is_next_rule, statement_of}
+use Rattle.cy_script.specs.Reading.{after_lines, after_statement, are_steps, before_steps, statement_of}
 use Rattle.cy_script.specs.Settings.{with_setting}
 use Rattle.cy_script.specs.Spelling.{is_for_the_front, limits_after, rule_of, step_of, IsInOrder}
 use Rattle.cy_script.proofs.FieldsRead.{bind_some}
-use Rattle.cy_script.proofs.RuleLists.{front_allowed, next_again, rules_kept, steps_are}
+use Rattle.cy_settings.specs.Rules.{is_next_rule, AreRules}
+use Rattle.cy_settings.proofs.RuleLists.{next_again, rules_kept}
+use Rattle.cy_script.proofs.StepLists.{front_allowed, steps_are}
 use Rattle.cy_script.proofs.StatementLines.{statement_again, statement_is}
 use Rattle.cy_script.proofs.Words.{some_then}
 
@@ -95,11 +97,11 @@ no_length steps h = let zero_length : suc (length steps) ≡ 0 = grind (arith, n
 abbrev IsPlaced : List Step → Statement → List Statement → Type 0
 IsPlaced steps s statements = (eqb (length steps) 0 ≡ true) × IsInOrderAfter steps statements
 
-set_in_order : (steps : List Step) (setting : Setting) (value : ℕ) (statements : List Statement) → IsPlaced steps (statement.Set setting value) statements → IsInOrderAfter steps (statement.Set setting value ∷ statements)
+set_in_order : (steps : List Step) (setting : Limit) (value : ℕ) (statements : List Statement) → IsPlaced steps (statement.Set setting value) statements → IsInOrderAfter steps (statement.Set setting value ∷ statements)
 set_in_order [] setting value statements h = h.1
 set_in_order (step ∷ steps) setting value statements h = absurd (no_length steps h.0)
 
-set_again : (steps : List Step) (setting : Setting) (value : ℕ) (statements : List Statement) → IsInOrderAfter steps (statement.Set setting value ∷ statements) → IsPlaced steps (statement.Set setting value) statements
+set_again : (steps : List Step) (setting : Limit) (value : ℕ) (statements : List Statement) → IsInOrderAfter steps (statement.Set setting value ∷ statements) → IsPlaced steps (statement.Set setting value) statements
 set_again [] setting value statements h = (refl, h)
 set_again (step ∷ steps) setting value statements h = absurd (cc h)
 

@@ -4,7 +4,8 @@ use Rattle.std.specs.Prelude.{bytes_eq, option_map}
 use Rattle.std.specs.Option.{option_and_then}
 use Rattle.cy_script.specs.declared.script.Script.{Script}
 use Rattle.cy_script.specs.declared.statements.Statement.{Statement}
-use Rattle.cy_script.specs.Conditions.{AreRules, AreSteps}
+use Rattle.cy_script.specs.Conditions.{AreSteps}
+use Rattle.cy_settings.specs.Rules.{AreRules}
 use Rattle.cy_script.specs.Lines.{HasLines}
 use Rattle.cy_script.specs.Reading.{after_lines, after_statement, lines_of, nothing_said, script_of, script_of_lines, statement_of, with_parts}
 use Rattle.cy_script.specs.Spelling.{first_line, IsScriptText}

@@ -7,14 +7,16 @@ use Rattle.std.proofs.lemmas.Bool.Decides.{nat_tests}
 use Rattle.std.proofs.lemmas.List.{append-nil}
 use Rattle.cy_bytes.specs.Numbers.{decimal_of}
 use Rattle.cy_map.specs.declared.rule.Rule.{Rule}
-use Rattle.cy_script.specs.declared.settings.Setting.{Setting}
-use Rattle.cy_script.specs.declared.settings.Setting.TheVariants.{MaxConnections, MaxHttpHeaderSize, MaxHeaderCount, MaxKeepAliveRequests, ConnectionTimeout, AsyncTimeout, MaxSwallowSize, MaxTrailerSize}
+use Rattle.cy_settings.specs.declared.limit.Limit.{Limit}
+use Rattle.cy_settings.specs.declared.limit.Limit.TheVariants.{MaxConnections, MaxHttpHeaderSize, MaxHeaderCount, MaxKeepAliveRequests, ConnectionTimeout, AsyncTimeout, MaxSwallowSize, MaxTrailerSize}
 use Rattle.cy_script.specs.declared.statements.Statement.{Statement}
 use Rattle.cy_script.specs.declared.statements.Statement.TheVariants as statement
 use Rattle.cy_script.specs.Drafts.{IsBounded}
 use Rattle.cy_script.specs.Lines.{lacks, mode_of, IsNumber, IsWritten}
-use Rattle.cy_script.specs.Reading.{alone, behind_word, is_async, number_field, rule_line, rule_of_part, set_line, set_of, set_to, setting_of, statement_of, statement_of_word, step_line, word_field, word_of}
-use Rattle.cy_script.specs.Settings.{greatest_of, least_of, name_of, settings, IsInRange}
+use Rattle.cy_script.specs.Reading.{alone, behind_word, is_async, number_field, rule_line, rule_of_part, set_line, set_of, set_to, statement_of, statement_of_word, step_line, word_field, word_of}
+use Rattle.cy_script.specs.Settings.{IsInRange}
+use Rattle.cy_settings.specs.Limits.{limit_greatest, limit_least, limit_name, limit_named, limits}
+use Rattle.cy_settings.specs.Rules.{most_part}
 use Rattle.cy_script.proofs.FieldsRead.{alone_is, bind_some, cond_cases, map_some, number_field_is, number_field_last, number_field_then, word_field_is, word_field_last, word_field_then}
 use Rattle.cy_script.proofs.StepLines.{same_bytes, step_again, step_line_is}
 use Rattle.cy_script.proofs.Words.{and_parts, some_then, word_and_rest, word_then}
@@ -29,10 +31,10 @@ find_passes {A} p (y ∷ xs) x h =
       | false ↦ λ e k. find_passes p xs x k
     ] refl h
 
-setting_is : (name : List ℕ) (setting : Setting) → setting_of name ≡ Some setting → name ≡ name_of setting
-setting_is name setting h = sym (same_bytes (name_of setting) name (find_passes (λ s. bytes_eq (name_of s) name) settings setting h))
+setting_is : (name : List ℕ) (setting : Limit) → limit_named name ≡ Some setting → name ≡ limit_name setting
+setting_is name setting h = sym (same_bytes (limit_name setting) name (find_passes (λ s. bytes_eq (limit_name s) name) limits setting h))
 
-setting_again : (setting : Setting) → setting_of (name_of setting) ≡ Some setting
+setting_again : (setting : Limit) → limit_named (limit_name setting) ≡ Some setting
 setting_again MaxConnections = refl
 setting_again MaxHttpHeaderSize = refl
 setting_again MaxHeaderCount = refl
@@ -42,7 +44,7 @@ setting_again AsyncTimeout = refl
 setting_again MaxSwallowSize = refl
 setting_again MaxTrailerSize = refl
 
-name_lacks : (setting : Setting) → lacks 32 (name_of setting) ≡ true
+name_lacks : (setting : Limit) → lacks 32 (limit_name setting) ≡ true
 name_lacks MaxConnections = refl
 name_lacks MaxHttpHeaderSize = refl
 name_lacks MaxHeaderCount = refl
@@ -52,21 +54,21 @@ name_lacks AsyncTimeout = refl
 name_lacks MaxSwallowSize = refl
 name_lacks MaxTrailerSize = refl
 
-abbrev in_range : Setting → ℕ → Bool
-in_range setting value = leb (least_of setting) value && leb value (greatest_of setting)
+abbrev in_range : Limit → ℕ → Bool
+in_range setting value = leb (limit_least setting) value && leb value (limit_greatest setting)
 
-is_in_range : (setting : Setting) (value : ℕ) → in_range setting value ≡ true → IsInRange setting value
+is_in_range : (setting : Limit) (value : ℕ) → in_range setting value ≡ true → IsInRange setting value
 is_in_range setting value h =
-    let parts = and_parts (leb (least_of setting) value) (leb value (greatest_of setting)) h in
+    let parts = and_parts (leb (limit_least setting) value) (leb value (limit_greatest setting)) h in
     (leb-true _ _ parts.0, leb-true _ _ parts.1)
 
-in_range_again : (setting : Setting) (value : ℕ) → IsInRange setting value → in_range setting value ≡ true
+in_range_again : (setting : Limit) (value : ℕ) → IsInRange setting value → in_range setting value ≡ true
 in_range_again setting value h = rw (le-leb _ _ h.0) (le-leb _ _ h.1)
 
 abbrev set_line_of : List ℕ → Statement → Type 0
 set_line_of fields s = IsWritten s (codes "set" ++ fields)
 
-value_is : (setting : Setting) (name fields after : List ℕ) (s : Statement) → fields ≡ 32 ∷ (name ++ after) → name ≡ name_of setting → set_to setting after ≡ Some s → set_line_of fields s
+value_is : (setting : Limit) (name fields after : List ℕ) (s : Statement) → fields ≡ 32 ∷ (name ++ after) → name ≡ limit_name setting → set_to setting after ≡ Some s → set_line_of fields s
 value_is setting name fields after s parts named h =
     let value = bind_some (number_field after) (λ v. option_and_then (λ set. alone set v.1) (set_of setting v.0)) s h in
     let field = number_field_is after value.0 value.1 in
@@ -75,7 +77,7 @@ value_is setting name fields after s parts named h =
     let ends = alone_is set.0 s value.0.1 set.2 in
     let made : statement.Set setting value.0.0 ≡ set.0 = cc ranged.1 in
     let follows : after ≡ 32 ∷ field.digits = field.parts ∙ ap (λ (r : List ℕ). 32 ∷ (field.digits ++ r)) ends.0 ∙ ap (λ (t : List ℕ). 32 ∷ t) (append-nil field.digits) in
-    let whole : fields ≡ 32 ∷ (name_of setting ++ 32 ∷ field.digits) = parts ∙ ap (λ (n : List ℕ). 32 ∷ (n ++ after)) named ∙ ap (λ (r : List ℕ). 32 ∷ (name_of setting ++ r)) follows in
+    let whole : fields ≡ 32 ∷ (limit_name setting ++ 32 ∷ field.digits) = parts ∙ ap (λ (n : List ℕ). 32 ∷ (n ++ after)) named ∙ ap (λ (r : List ℕ). 32 ∷ (limit_name setting ++ r)) follows in
     subst (set_line_of fields) ends.1 (subst (set_line_of fields) made (is_in_range setting value.0.0 ranged.0, (field.digits, field.number, ap (λ (f : List ℕ). codes "set" ++ f) whole)))
 
 set_line_is : (fields : List ℕ) (s : Statement) → set_line fields ≡ Some s → set_line_of fields s
@@ -85,8 +87,8 @@ set_line_is fields s h =
           let made : statement.NoLimit ≡ s = cc no_limit.1 in
           subst (set_line_of fields) made (ap (λ (f : List ℕ). codes "set" ++ f) (same_bytes fields (codes " maxKeepAliveRequests -1") no_limit.0))
       | inr named ↦
-          let name = bind_some (word_field fields) (λ n. option_and_then (λ setting. set_to setting n.1) (setting_of n.0)) s named.1 in
-          let setting = bind_some (setting_of name.0.0) (λ setting. set_to setting name.0.1) s name.2 in
+          let name = bind_some (word_field fields) (λ n. option_and_then (λ setting. set_to setting n.1) (limit_named n.0)) s named.1 in
+          let setting = bind_some (limit_named name.0.0) (λ setting. set_to setting name.0.1) s name.2 in
           value_is setting.0 name.0.0 fields name.0.1 s (word_field_is fields name.0 name.1).parts (setting_is name.0.0 setting.0 setting.1) setting.2
     ]
 
@@ -99,10 +101,10 @@ no_minus : (value : ℕ) → decimal_of (codes "-1") ≢ Some value
 unfolding decimal_of
 no_minus value h = absurd cc
 
-no_number_is_minus_one : (setting : Setting) (digits : List ℕ) (value : ℕ) → IsNumber digits value → 32 ∷ (name_of setting ++ 32 ∷ digits) ≢ codes " maxKeepAliveRequests -1"
+no_number_is_minus_one : (setting : Limit) (digits : List ℕ) (value : ℕ) → IsNumber digits value → 32 ∷ (limit_name setting ++ 32 ∷ digits) ≢ codes " maxKeepAliveRequests -1"
 unfolding tail_of
 no_number_is_minus_one setting digits value number e =
-    let rest : 32 ∷ digits ≡ codes " -1" = sym (word_then (name_of setting) digits (name_lacks setting)).1 ∙ ap (λ (t : List ℕ). behind_word (tail_of t)) e in
+    let rest : 32 ∷ digits ≡ codes " -1" = sym (word_then (limit_name setting) digits (name_lacks setting)).1 ∙ ap (λ (t : List ℕ). behind_word (tail_of t)) e in
     no_minus value (ap decimal_of (sym (ap tail_of rest)) ∙ number)
 
 is_no_limit : (fields : List ℕ) → fields ≢ codes " maxKeepAliveRequests -1" → bytes_eq fields (codes " maxKeepAliveRequests -1") ≡ false
@@ -112,18 +114,18 @@ is_no_limit fields other =
       | false ↦ λ e. refl
     ] refl
 
-set_to_again : (setting : Setting) (value : ℕ) (digits : List ℕ) → IsInRange setting value → IsNumber digits value → set_to setting (32 ∷ digits) ≡ Some (statement.Set setting value)
+set_to_again : (setting : Limit) (value : ℕ) (digits : List ℕ) → IsInRange setting value → IsNumber digits value → set_to setting (32 ∷ digits) ≡ Some (statement.Set setting value)
 set_to_again setting value digits ranged number =
     ap (λ (o : Option (ℕ × List ℕ)). option_and_then (λ v. option_and_then (λ set. alone set v.1) (set_of setting v.0)) o) (number_field_last digits value number)
     ∙ ap (λ (t : Bool). option_and_then {T = Statement} (λ set. alone set []) (cond t (Some (statement.Set setting value)) None)) (in_range_again setting value ranged)
 
-set_line_again : (setting : Setting) (value : ℕ) (digits : List ℕ) → IsInRange setting value → IsNumber digits value → set_line (32 ∷ (name_of setting ++ 32 ∷ digits)) ≡ Some (statement.Set setting value)
+set_line_again : (setting : Limit) (value : ℕ) (digits : List ℕ) → IsInRange setting value → IsNumber digits value → set_line (32 ∷ (limit_name setting ++ 32 ∷ digits)) ≡ Some (statement.Set setting value)
 set_line_again setting value digits ranged number =
-    let fields = 32 ∷ (name_of setting ++ 32 ∷ digits) in
-    let by_name : Option (List ℕ × List ℕ) → Option Statement = λ o. option_and_then (λ n. option_and_then (λ s. set_to s n.1) (setting_of n.0)) o in
+    let fields = 32 ∷ (limit_name setting ++ 32 ∷ digits) in
+    let by_name : Option (List ℕ × List ℕ) → Option Statement = λ o. option_and_then (λ n. option_and_then (λ s. set_to s n.1) (limit_named n.0)) o in
     ap (λ (t : Bool). cond t (Some statement.NoLimit) (by_name (word_field fields))) (is_no_limit fields (no_number_is_minus_one setting digits value number))
-    ∙ ap by_name (word_field_then (name_of setting) digits (name_lacks setting))
-    ∙ ap (λ (o : Option Setting). option_and_then (λ s. set_to s (32 ∷ digits)) o) (setting_again setting)
+    ∙ ap by_name (word_field_then (limit_name setting) digits (name_lacks setting))
+    ∙ ap (λ (o : Option Limit). option_and_then (λ s. set_to s (32 ∷ digits)) o) (setting_again setting)
     ∙ set_to_again setting value digits ranged number
 
 -- ---- rules

@@ -1,22 +1,9 @@
--- What holds of the rules and the steps of a script as wholes.
+-- What holds of the steps of a script as a whole.
 use Rattle.std.specs.Prelude.{◌≡◌, ℕ, ◌≤◌, ◌==◌, nat_le, Bool, true, false, List, length, count_by}
 use Rattle.std.specs.List.{list_all, sum_by}
 use Rattle.cy_event.specs.declared.steps.Act.TheVariants as act
 use Rattle.cy_event.specs.declared.steps.Step.{Step}
 use Rattle.cy_event.specs.declared.steps.Step.TheVariants as step
-use Rattle.cy_map.specs.declared.rule.Rule.{Rule}
-use Rattle.cy_map.specs.declared.mapper.TheConstants.{MAX_RULES}
-use Rattle.cy_map.specs.Refusals.{IsTaken}
-use Rattle.cy_script.specs.Lines.{most_part}
-
--- the pattern of each is one, none stands twice, and there are not too many
-pub record AreRules (rules : List Rule) : Type 0 where
-  pub taken : IsTaken rules
-  pub few : length rules ≤ MAX_RULES
-
--- the part is no greater than the greatest
-abbrev pub has_part : Rule → Bool
-has_part rule = nat_le rule.part most_part
 
 -- the step is one of the only connection that a script has so far
 abbrev pub is_of_the_connection : Step → Bool

@@ -4,9 +4,9 @@ use Rattle.std.specs.List.{list_all, sum_by}
 use Rattle.cy_script.specs.declared.draft.Draft.TheInside.{Inside}
 use Rattle.cy_script.specs.declared.statements.Statement.{Statement}
 use Rattle.cy_script.specs.declared.statements.Statement.TheVariants as statement
-use Rattle.cy_script.specs.Conditions.{has_part, is_admit, is_of_the_connection, most_written, written_by}
-use Rattle.cy_script.specs.Lines.{most_part}
-use Rattle.cy_script.specs.Settings.{greatest_of}
+use Rattle.cy_script.specs.Conditions.{is_admit, is_of_the_connection, most_written, written_by}
+use Rattle.cy_settings.specs.Limits.{limit_greatest}
+use Rattle.cy_settings.specs.Rules.{has_part, most_part}
 
 -- the steps are counted
 pub record IsCounted (d : Inside) : Type 0 where
@@ -18,6 +18,6 @@ pub record IsCounted (d : Inside) : Type 0 where
 
 -- the number in a statement is no greater than it may be
 abbrev pub IsBounded : Statement → Type 0
-IsBounded (statement.Set setting value) = value ≤ greatest_of setting
+IsBounded (statement.Set setting value) = value ≤ limit_greatest setting
 IsBounded (statement.Rule rule) = rule.part ≤ most_part
 IsBounded s = Unit {0}

@@ -7,10 +7,10 @@ use Rattle.cy_event.specs.declared.steps.Event.TheVariants as event
 use Rattle.cy_event.specs.declared.steps.Step.{Step}
 use Rattle.cy_event.specs.declared.steps.Step.TheVariants as step
 use Rattle.cy_script.specs.declared.script.Script.{Script}
-use Rattle.cy_script.specs.declared.settings.Setting.TheVariants.{MaxConnections, MaxHttpHeaderSize, MaxHeaderCount, MaxKeepAliveRequests, ConnectionTimeout, AsyncTimeout, MaxSwallowSize, MaxTrailerSize}
-use Rattle.cy_script.specs.Conditions.{has_part, AreRules, AreSteps}
+use Rattle.cy_settings.specs.declared.limit.Limit.TheVariants.{MaxConnections, MaxHttpHeaderSize, MaxHeaderCount, MaxKeepAliveRequests, ConnectionTimeout, AsyncTimeout, MaxSwallowSize, MaxTrailerSize}
+use Rattle.cy_script.specs.Conditions.{AreSteps}
 use Rattle.cy_script.specs.Settings.{IsInRange}
-use Rattle.cy_script.specs.Spelling.{parts_of}
+use Rattle.cy_settings.specs.Rules.{has_part, parts_of, AreRules}
 
 -- a number of requests, or none
 abbrev pub IsKeepAlive : ℤ → Type 0

@@ -9,7 +9,9 @@ use Rattle.cy_event.specs.declared.steps.Step.{Step}
 use Rattle.cy_event.specs.declared.steps.Step.TheVariants as step
 use Rattle.cy_script.specs.declared.statements.Statement.{Statement}
 use Rattle.cy_script.specs.declared.statements.Statement.TheVariants as statement
-use Rattle.cy_script.specs.Settings.{IsInRange, name_of}
+use Rattle.cy_script.specs.Settings.{IsInRange}
+use Rattle.cy_settings.specs.Limits.{limit_name}
+use Rattle.cy_settings.specs.Rules.{most_part}
 
 abbrev pub line_feed : ℕ
 line_feed = 10
@@ -68,9 +70,6 @@ IsStepLine line (step.Act conn act.Return bytes) = HasNumber line (codes "return
 
 -- ---- rules
 
-abbrev pub most_part : ℕ
-most_part = 255
-
 abbrev pub mode_of : Bool → List ℕ
 mode_of true = codes "async"
 mode_of false = codes "sync"
@@ -80,7 +79,7 @@ mode_of false = codes "sync"
 -- the line is the statement as it is written
 abbrev pub IsWritten : Statement → List ℕ → Type 0
 IsWritten statement.Nothing line = (line ≡ []) ⊎ ((comment : List ℕ) × (line ≡ codes "#" ++ comment))
-IsWritten (statement.Set setting value) line = IsInRange setting value × HasNumber line (codes "set" ∷ name_of setting ∷ []) value []
+IsWritten (statement.Set setting value) line = IsInRange setting value × HasNumber line (codes "set" ∷ limit_name setting ∷ []) value []
 IsWritten statement.NoLimit line = line ≡ codes "set maxKeepAliveRequests -1"
 IsWritten (statement.Rule rule) line =
     (lacks space rule.pattern ≡ true) × (rule.part ≤ most_part) × HasNumber line (codes "rule" ∷ rule.pattern ∷ []) rule.part (mode_of rule.can_async ∷ [])

@@ -10,17 +10,17 @@ use Rattle.cy_event.specs.declared.steps.Act.TheVariants as act
 use Rattle.cy_event.specs.declared.steps.Event.TheVariants as event
 use Rattle.cy_event.specs.declared.steps.Step.{Step}
 use Rattle.cy_event.specs.declared.steps.Step.TheVariants as step
-use Rattle.cy_map.specs.declared.mapper.TheConstants.{MAX_RULES}
 use Rattle.cy_map.specs.declared.rule.Rule.{Rule}
-use Rattle.cy_map.specs.Patterns.{is_pattern}
 use Rattle.cy_script.specs.declared.script.Script.{Script}
-use Rattle.cy_script.specs.declared.settings.Setting.{Setting}
+use Rattle.cy_settings.specs.declared.limit.Limit.{Limit}
 use Rattle.cy_script.specs.declared.statements.Statement.{Statement}
 use Rattle.cy_script.specs.declared.statements.Statement.TheVariants as statement
 use Rattle.cy_script.specs.Conditions.{is_admit, is_of_the_connection, most_written, written_by}
-use Rattle.cy_script.specs.Lines.{line_feed, most_part, space}
-use Rattle.cy_script.specs.Settings.{greatest_of, least_of, name_of, settings, with_setting}
-use Rattle.cy_script.specs.Spelling.{first_line, parts_of}
+use Rattle.cy_script.specs.Lines.{line_feed, space}
+use Rattle.cy_script.specs.Settings.{with_setting}
+use Rattle.cy_script.specs.Spelling.{first_line}
+use Rattle.cy_settings.specs.Limits.{limit_greatest, limit_least, limit_named}
+use Rattle.cy_settings.specs.Rules.{is_next_rule, most_part, parts_of}
 
 infixl 10 ◌>>=◌
 abbrev pub ◌>>=◌ : {A B : Type 0} → Option A → (A → Option B) → Option B
@@ -125,15 +125,11 @@ step_line word fields = do
 
 -- ---- settings
 
--- the setting of a name
-abbrev pub setting_of : List ℕ → Option Setting
-setting_of name = find (λ setting. bytes_eq (name_of setting) name) settings
-
 -- the setting has the value, where that is within its range
-abbrev pub set_of : Setting → ℕ → Option Statement
-set_of setting value = if nat_le (least_of setting) value && nat_le value (greatest_of setting) then Some (statement.Set setting value) else None
+abbrev pub set_of : Limit → ℕ → Option Statement
+set_of setting value = if nat_le (limit_least setting) value && nat_le value (limit_greatest setting) then Some (statement.Set setting value) else None
 
-abbrev pub set_to : Setting → List ℕ → Option Statement
+abbrev pub set_to : Limit → List ℕ → Option Statement
 set_to setting fields = do
   value ← number_field fields
   set ← set_of setting value.0
@@ -145,7 +141,7 @@ set_line fields =
     if bytes_eq fields (codes " maxKeepAliveRequests -1") then Some statement.NoLimit
     else do
       name ← word_field fields
-      setting ← setting_of name.0
+      setting ← limit_named name.0
       set_to setting name.1
 
 -- ---- rules
@@ -194,14 +190,6 @@ nothing_said = record { limits = standard 0; rules = []; steps = [] }
 -- the script so far, with this in front of its steps, where it has none
 abbrev pub before_steps : Script → Script → Option Script
 before_steps script next = if length script.steps == 0 then Some next else None
-
--- one of the rules has the pattern
-abbrev pub has_pattern : List Rule → List ℕ → Bool
-has_pattern rules pattern = list_any (λ rule. bytes_eq rule.pattern pattern) rules
-
--- the pattern is one and stands nowhere before, and there is room for the rule
-abbrev pub is_next_rule : List Rule → Rule → Bool
-is_next_rule rules rule = is_pattern rule.pattern && (not (has_pattern rules rule.pattern) && nat_lt (length rules) MAX_RULES)
 
 abbrev pub are_steps : List Step → Bool
 are_steps steps =

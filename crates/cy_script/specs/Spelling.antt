@@ -8,9 +8,10 @@ use Rattle.cy_map.specs.declared.rule.Rule.{Rule}
 use Rattle.cy_script.specs.declared.script.Script.{Script}
 use Rattle.cy_script.specs.declared.statements.Statement.{Statement}
 use Rattle.cy_script.specs.declared.statements.Statement.TheVariants as statement
-use Rattle.cy_script.specs.Conditions.{AreRules, AreSteps}
+use Rattle.cy_script.specs.Conditions.{AreSteps}
 use Rattle.cy_script.specs.Lines.{HasLines, IsWritten}
 use Rattle.cy_script.specs.Settings.{with_setting}
+use Rattle.cy_settings.specs.Rules.{parts_of, AreRules}
 
 -- ---- what the statements say together
 
@@ -27,10 +28,6 @@ abbrev pub limits_after : Limits → Statement → Limits
 limits_after limits (statement.Set setting value) = with_setting setting value limits
 limits_after limits statement.NoLimit = record limits { max_keep_alive = negsuc 0 }
 limits_after limits s = limits
-
--- one more than the greatest number of a component, or 0 without rules
-abbrev pub parts_of : List Rule → ℕ
-parts_of rules = fold (λ parts rule. max parts (rule.part + 1)) 0 rules
 
 -- what statements say: the settings over the defaults, the rules, and the steps
 abbrev pub said_by : List Statement → Script

@@ -1,17 +1,17 @@
 //! What the lines of a script have said so far.
 
-ghost use Rattle.std.specs.Prelude.{◌≡◌, ◌≤◌, ◌++◌, ◌∷◌, [], ◌==◌, not, length, true};
-ghost use Rattle.std.specs.List.{list_all};
+ghost use Rattle.std.specs.Prelude.{◌≡◌, ◌≤◌, ◌++◌, ◌∷◌, [], ◌==◌, not, length};
 ghost use Rattle.cy_script.specs.Answers.{Reads};
-ghost use Rattle.cy_script.specs.Conditions.{has_part, is_admit, is_of_the_connection, written_by};
-ghost use Rattle.cy_script.specs.Reading.{has_pattern, is_next_rule};
-ghost use Rattle.cy_script.specs.Spelling.{parts_of};
+ghost use Rattle.cy_script.specs.Conditions.{is_admit, is_of_the_connection, written_by};
+ghost use Rattle.cy_settings.specs.Rules.{is_next_rule};
 
 use crate::fault::ScriptFault;
-use crate::script::{Rules, Script, Steps};
+use crate::script::{Script, Steps};
+use crate::settings::with_setting;
 use crate::statements::Statement;
 use cy_event::{Act, Limits, Step};
 use cy_map::{MAX_RULES, Rule, is_pattern};
+use cy_settings::{Rules, has_pattern, parts_of};
 use std::alloc::Global;
 use std::marker::Model;
 
@@ -44,7 +44,7 @@ impl Model for Draft {
 impl Draft {
     ghost use Rattle.cy_script.specs.Reading.{after_statement, are_steps, before_steps, nothing_said, with_parts};
     ghost use Rattle.cy_script.specs.Drafts.{IsBounded};
-    ghost use Rattle.cy_script.specs.Lines.{most_part};
+    ghost use Rattle.cy_settings.specs.Rules.{most_part};
     ghost use Rattle.std.specs.Prelude.{if◌then◌else◌, None, Some};
 
     /// Nothing is said yet.
@@ -82,7 +82,7 @@ impl Draft {
     {
         match statement {
             Statement::Nothing => Ok(()),
-            Statement::Set(setting, value) => self.set_limits(setting.set(self.limits, value)),
+            Statement::Set(setting, value) => self.set_limits(with_setting(setting, value, self.limits)),
             Statement::NoLimit => self.set_limits(Limits {
                 max_keep_alive: -1,
                 ..self.limits
@@ -148,25 +148,6 @@ fn is_next_rule(rules: &[Rule], rule: &Rule) -> bool
 {
     let pattern = rule.pattern.as_slice();
     is_pattern(pattern) && !has_pattern(rules, pattern) && rules.len() < MAX_RULES
-}
-
-/// Whether one of the rules has the pattern.
-fn has_pattern(rules: &[Rule], pattern: &[u8]) -> bool
-    ensures { result ≡ has_pattern rules.now pattern.now }
-{
-    rules.iter().any(|rule| rule.pattern.as_slice() == pattern)
-}
-
-/// One more than the greatest number of a component, or 0 without rules.
-fn parts_of(rules: &[Rule]) -> u32
-    requires { list_all has_part rules.now ≡ true }
-    ensures { result ≡ parts_of rules.now }
-{
-    let mut parts = 0;
-    for rule in rules {
-        parts = parts.max(rule.part + 1);
-    }
-    parts
 }
 
 /// Whether a step is one of the only connection that a script has so far.

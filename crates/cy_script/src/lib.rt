@@ -10,10 +10,11 @@ mod script;
 mod settings;
 mod statements;
 
+pub use cy_settings::Rules;
 pub use fault::ScriptFault;
 pub use laws::{example_is_read, reading_is_spelling, scripts_are_within_the_form};
 pub use reading::read_script;
-pub use script::{Rules, Script, Steps};
+pub use script::{Script, Steps};
 
 #[cfg(test)]
 mod tests;

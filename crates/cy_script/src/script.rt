@@ -1,49 +1,10 @@
-//! A script, and the lists of its rules and of its steps.
+//! A script, and the list of its steps.
 
 ghost use Rattle.std.specs.Prelude.{◌≡◌};
 
 use cy_event::{Limits, Step};
-use cy_map::Rule;
+use cy_settings::Rules;
 use std::marker::Model;
-
-/// The rules of a script, as a list.
-#[derive(Debug, Drop)]
-pub struct Rules {
-    items: Vec<Rule>,
-}
-
-impl Model for Rules {
-    ghost use Rattle.cy_map.specs.declared.rule.Rule.{Rule};
-    ghost use Rattle.std.specs.Prelude.{List};
-
-    ghost Value = { List Rule };
-
-    ghost view = { λ r. r.items.items };
-}
-
-impl Rules {
-    /// These rules. It takes no memory.
-    pub fn of(items: Vec<Rule>) -> Rules
-        ensures { result ≡ items.items }
-    {
-        Rules { items }
-    }
-
-    /// The vector of the rules. It takes no memory.
-    pub fn into_vec(self) -> Vec<Rule>
-        ensures { result.items ≡ self }
-    {
-        let Rules { items } = self;
-        items
-    }
-
-    /// The rules, lent.
-    pub fn as_slice(&self) -> &[Rule]
-        ensures { result.now ≡ self.now }
-    {
-        self.items.as_slice()
-    }
-}
 
 /// The steps of a script, as a list.
 #[derive(Debug, Drop)]

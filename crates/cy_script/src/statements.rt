@@ -6,13 +6,10 @@ ghost use Rattle.cy_script.specs.Reading.{act_of, came_of, is_async, is_skipped,
 
 use crate::fault::ScriptFault;
 use crate::fields::{alone, cut_word, number_field, quoted_field, word_field};
-use crate::settings::Setting;
 use cy_event::{Act, Bytes, Event, Step};
 use cy_map::Rule;
+use cy_settings::{GREATEST_PART, Limit};
 use std::alloc::Global;
-
-/// The greatest number of a component.
-const MOST_PART: u64 = 255;
 
 /// What a line of a script says.
 #[derive(Debug, Drop)]
@@ -20,7 +17,7 @@ pub(crate) enum Statement {
     /// Nothing: it is empty, or a comment.
     Nothing,
     /// A setting has this value.
-    Set(Setting, u64),
+    Set(Limit, u64),
     /// A connection may have any number of requests.
     NoLimit,
     /// The next rule.
@@ -71,12 +68,12 @@ fn set_line(fields: &[u8]) -> Result<Statement, ScriptFault>
         return Ok(Statement::NoLimit);
     }
     let (name, rest) = word_field(fields)?;
-    let setting = Setting::named(name).ok_or(ScriptFault::Refused)?;
+    let setting = Limit::named(name).ok_or(ScriptFault::Refused)?;
     set_to(setting, rest)
 }
 
 /// The value of a setting, which is within its range.
-fn set_to(setting: Setting, fields: &[u8]) -> Result<Statement, ScriptFault>
+fn set_to(setting: Limit, fields: &[u8]) -> Result<Statement, ScriptFault>
     ensures { Reads (λ s. s) result (set_to setting fields.now) }
 {
     let (value, rest) = number_field(fields)?;
@@ -84,10 +81,10 @@ fn set_to(setting: Setting, fields: &[u8]) -> Result<Statement, ScriptFault>
     alone(set, rest)
 }
 
-fn set_of(setting: Setting, value: u64) -> Result<Statement, ScriptFault>
+fn set_of(setting: Limit, value: u64) -> Result<Statement, ScriptFault>
     ensures { Reads (λ s. s) result (set_of setting value) }
 {
-    if setting.least() <= value && value <= setting.greatest() {
+    if u64::from(setting.least()) <= value && value <= u64::from(setting.greatest()) {
         Ok(Statement::Set(setting, value))
     } else {
         Err(ScriptFault::Refused)
@@ -127,7 +124,7 @@ fn rule_of_part(
 ) -> Result<Rule, ScriptFault>
     ensures { Reads (λ rule. rule) result (rule_of_part pattern.now part can_async) }
 {
-    if part > MOST_PART {
+    if part > u64::from(GREATEST_PART) {
         return Err(ScriptFault::Refused);
     }
     Ok(Rule {

@@ -1,7 +1,7 @@
 //! What a connector is set to.
 ghost use Rattle.std.specs.Prelude.{◌≡◌, ◌≤◌, IfOk};
 ghost use Rattle.cy_event.specs.declared.head.TheConstants.{HEAD_ROOM, FIELD_ROOM};
-ghost use Rattle.cy_script.specs.Conditions.{AreRules};
+ghost use Rattle.cy_settings.specs.Rules.{AreRules};
 ghost use Rattle.cy_script.specs.Kept.{AreLimits};
 
 use cy_event::Limits;

@@ -7,7 +7,7 @@ use Rattle.cy_settings.specs.Rules.{has_pattern}
 use Rattle.cy_config.specs.Members.{is_table, members_in}
 use Rattle.cy_config.specs.Meaning.{read_rule, read_rules}
 use Rattle.cy_config.proofs.Refused.{reads_refused}
-use Rattle.cy_config.proofs.RulesRead.{rest_read, rule_read, rule_refused, rule_twice, same_read, found_fresh, found_twice, table_at, one_more_part, one_more_pattern, one_more_rule}
+use Rattle.cy_config.proofs.RulesRead.{rest_read, rule_read, rule_refused, rule_twice, same_read, found_fresh, found_twice, table_at, one_more_part, one_more_pattern, one_more_rule, one_more_text}
 use Rattle.cy_config.proofs.rules.read_rules.Goals as goal
 
 pub table_in-table-requires : goal.table_in-table-requires
@@ -54,5 +54,6 @@ loop-value-preserved c =
       count = grind (arith, common_steps);
       taken = rw pushed (one_more_rule c.loop-value.rules.items c.in_ok-rule.rule c.loop-value.invariant.taken c.in_ok-rule.ensures.good fresh few);
       known_parts = rw pushed (one_more_part c.loop-value.rules.items c.in_ok-rule.rule c.loop-value.invariant.known_parts c.in_ok-rule.ensures.part);
+      utf8 = rw pushed (one_more_text c.loop-value.rules.items c.in_ok-rule.rule c.loop-value.invariant.utf8 c.in_ok-rule.ensures.utf8);
       patterns = rw pushed (one_more_pattern c.pattern_at.result c.insert.new.self.keys c.loop-value.patterns.keys c.loop-value.rules.items c.in_ok-rule.rule c.in_ok-insert.ensures.keys (c.in_ok-rule.ensures.pattern ∙ sym c.pattern_at.ensures) c.loop-value.invariant.patterns);
     }

@@ -1,4 +1,5 @@
-use Rattle.std.proofs.Common.{◌≡◌, [], true, length, drop, map}
+use Rattle.std.proofs.Common.{◌≡◌, [], true, length, drop, map, IsUtf8}
+use Rattle.std.specs.Prelude.{All}
 use Rattle.std.specs.List.{list_all}
 use Rattle.toml.specs.View.{view}
 use Rattle.cy_settings.specs.Rules.{AreRules, has_part}
@@ -12,5 +13,6 @@ invariant-loop-value l = record {
   count : length l.rules.items ≡ l.value-index;
   taken : AreRules l.rules.items;
   known_parts : list_all has_part l.rules.items ≡ true;
+  utf8 : All (λ rule. IsUtf8 rule.pattern) l.rules.items;
   patterns : HoldsPatterns l.patterns.keys l.rules.items;
 }

@@ -1,5 +1,5 @@
-use Rattle.std.proofs.Common.{◌≡◌, None}
+use Rattle.cy_pool.specs.Stocks.{IsIdleSeatOf}
 use Rattle.cy_pool.proofs.tests.take_and_give.Given as goal
 
 abbrev pub invariant-loop : goal.invariant-loop
-invariant-loop g l = (l.seat.name ≡ l.pool.name) × (l.seat.slots ≡ l.pool.slots) × (l.seat.slip ≡ None)
+invariant-loop g l = IsIdleSeatOf l.pool l.seat

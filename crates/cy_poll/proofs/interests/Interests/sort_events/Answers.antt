@@ -1,7 +1,7 @@
 use Rattle.std.proofs.Common.{◌≡◌, List, false, ap, length, sym, ◌∙◌, arith}
 use Rattle.std.proofs.lemmas.List.{length-replicate}
 use Rattle.cy_poll.specs.declared.kinds.Note.{Note}
-use Rattle.cy_poll.proofs.Ended.{all_written, front_given, no_marks, sorted_notes}
+use Rattle.cy_poll.proofs.Ended.{all_written, front_given, given_below, no_marks, sorted_notes}
 use Rattle.cy_poll.proofs.interests.Interests.sort_events.Goals as goal
 
 pub invariant_of-self : goal.invariant_of-self
@@ -40,3 +40,14 @@ returns-clause-turn c =
       rw same (front_given old c.args.events.now c.note_events-count.new.into c.args.into.now c.note_events-count.result first.count first.given),
       returns-clause-notes c,
     )
+
+pub returns-clause-places : goal.returns-clause-places
+returns-clause-places c = (returns-clause-notes c).places
+
+pub returns-clause-below : goal.returns-clause-below
+returns-clause-below c =
+    let old : List Note = c.as_mut_slice-notes.result.now in
+    let first = c.note_events-count.ensures in
+    let same : c.args.self.now ≡ old = sym c.self.view_is ∙ sym c.as_mut_slice-notes.ensures.value in
+    rw (front_given old c.args.events.now c.note_events-count.new.into c.args.into.now c.note_events-count.result first.count first.given, same)
+    (given_below old c.args.events.now)

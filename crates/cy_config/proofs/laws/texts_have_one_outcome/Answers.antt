@@ -1,0 +1,5 @@
+use Rattle.cy_config.proofs.OutcomeLaws.{one_outcome}
+use Rattle.cy_config.proofs.laws.texts_have_one_outcome.Goals as goal
+
+pub returns : goal.returns
+returns c = one_outcome
