@@ -7,3 +7,4 @@ pub mod Streams
 mod Lives
 mod Written
 mod Keeping
+mod Steps

@@ -243,16 +243,19 @@ open_not_over stage.Over o = cc
 open_not_over stage.Refused o = cc
 
 -- nothing is handed over where there is no room for it
-take_none : (n : ℕ) → take {X = ℕ} n [] ≡ []
+abbrev none : List ℕ
+none = []
+
+take_none : (n : ℕ) → take n none ≡ none
 take_none zero = refl
 take_none (suc n) = refl
 
-no_room : (r : Reply) → replied_in r [] ≡ plain r
+no_room : (r : Reply) → replied_in r none ≡ plain r
 no_room (reply.Got n) = ap (λ (u : List ℕ). record { reply = reply.Got n; got = u }) (take_none n)
 no_room r = refl
 
-pub act_lives : (rules : List Rule) (a : Act) (b : List ℕ) (r : Reply) (T : Trace) (p new : LiveParts) (l : LineParts) (q : ProcessorParts) → is_open_at p.processor.stage ≡ true → Lives T p → l.moment ≡ max p.line.moment 0 → q.limits ≡ p.processor.limits → AnswersEachAct a b p.line p.processor r [] l q → SettlesEach rules (record p { line = l; processor = q }) new → AnswersLive (callback_reply p.limits T a) (after_callback p.limits rules p.line.moment T a b) (plain r) new
-act_lives rules a b r T p new l q o s later same answers settles =
+pub act_lives : (rules : List Rule) (a : Act) (b into : List ℕ) (r : Reply) (T : Trace) (p new : LiveParts) (l : LineParts) (q : ProcessorParts) → is_open_at p.processor.stage ≡ true → Lives T p → l.moment ≡ max p.line.moment 0 → q.limits ≡ p.processor.limits → into ≡ none → AnswersEachAct a b p.line p.processor r into l q → SettlesEach rules (record p { line = l; processor = q }) new → AnswersLive (callback_reply p.limits T a) (after_callback p.limits rules p.line.moment T a b) (plain r) new
+act_lives rules a b into r T p new l q o s later same empty answers settles =
     let w = answers T s.serves in
     let at : l.moment ≡ p.line.moment = later ∙ last_moment p.line.moment in
     let to_limits : q.limits ≡ p.limits = same ∙ s.limits in
@@ -262,7 +265,7 @@ act_lives rules a b r T p new l q o s later same answers settles =
     ∙ ap (λ (t : ℕ). settled p.limits rules t (rested_callback p.limits t T a b)) at
     ∙ settled_callback p.limits rules p.line.moment T a b (plainly T s.serves.line.sound) (stands_open T p.processor s.serves.processor ∙ o) in
     record {
-      reply = sym (no_room r) ∙ w.reply ∙ ap (λ (k : Limits). callback_reply k T a) to_limits;
+      reply = sym (ap (replied_in r) empty ∙ no_room r) ∙ w.reply ∙ ap (λ (k : Limits). callback_reply k T a) to_limits;
       lives = subst (λ (R : Trace). Lives R new) trace lives;
     }
 
@@ -293,13 +296,13 @@ module _ (limits : Limits) (t : ℕ) (T : Trace) where
       ] e
 
 -- it is followed by nothing
-pub refused_lives : (rules : List Rule) (a : Act) (b : List ℕ) (r : Reply) (T : Trace) (p : LiveParts) (l : LineParts) (q : ProcessorParts) → is_refusal r ≡ true → is_open_at p.processor.stage ≡ true → Lives T p → l.moment ≡ max p.line.moment 0 → q.limits ≡ p.processor.limits → AnswersEachAct a b p.line p.processor r [] l q → AnswersLive (callback_reply p.limits T a) (after_callback p.limits rules p.line.moment T a b) (plain r) (record p { line = l; processor = q })
-refused_lives rules a b r T p l q refused_now o s later same answers =
+pub refused_lives : (rules : List Rule) (a : Act) (b into : List ℕ) (r : Reply) (T : Trace) (p : LiveParts) (l : LineParts) (q : ProcessorParts) → is_refusal r ≡ true → is_open_at p.processor.stage ≡ true → Lives T p → l.moment ≡ max p.line.moment 0 → q.limits ≡ p.processor.limits → into ≡ none → AnswersEachAct a b p.line p.processor r into l q → AnswersLive (callback_reply p.limits T a) (after_callback p.limits rules p.line.moment T a b) (plain r) (record p { line = l; processor = q })
+refused_lives rules a b into r T p l q refused_now o s later same empty answers =
     let w = answers T s.serves in
     let m = p.line.moment in
     let at : l.moment ≡ m = later ∙ last_moment m in
     let to_limits : q.limits ≡ p.limits = same ∙ s.limits in
-    let replied : plain r ≡ callback_reply p.limits T a = sym (no_room r) ∙ w.reply ∙ ap (λ (k : Limits). callback_reply k T a) to_limits in
+    let replied : plain r ≡ callback_reply p.limits T a = sym (ap (replied_in r) empty ∙ no_room r) ∙ w.reply ∙ ap (λ (k : Limits). callback_reply k T a) to_limits in
     let here : is_refusal (callback_reply p.limits T a).reply ≡ true = sym (ap (λ (x : Replied). is_refusal x.reply) replied) ∙ refused_now in
     let stays : rested_callback p.limits m T a b ≡ T = callback_refused p.limits m T a b here in
     let open_now : is_open T ≡ true = stands_open T p.processor s.serves.processor ∙ o in
@@ -378,7 +381,13 @@ turn_alive p r l q a o same answers =
     (rested_turn q.limits l.moment a.0, served_lives a.0 (rested_turn q.limits l.moment a.0) p l q (open_not_over p.processor.stage o) (same ∙ a.1.limits) a.1 w.after)
 
 -- and after an act
-pub act_alive : (a : Act) (b : List ℕ) (p : LiveParts) (r : Reply) (l : LineParts) (q : ProcessorParts) → IsAlive p → is_open_at p.processor.stage ≡ true → q.limits ≡ p.processor.limits → AnswersEachAct a b p.line p.processor r [] l q → IsAlive (record p { line = l; processor = q })
-act_alive a b p r l q alive o same answers =
+pub act_alive : (a : Act) (b into : List ℕ) (p : LiveParts) (r : Reply) (l : LineParts) (q : ProcessorParts) → IsAlive p → is_open_at p.processor.stage ≡ true → q.limits ≡ p.processor.limits → AnswersEachAct a b p.line p.processor r into l q → IsAlive (record p { line = l; processor = q })
+act_alive a b into p r l q alive o same answers =
     let w = answers alive.0 alive.1.serves in
     (rested_callback q.limits l.moment alive.0 a b, served_lives alive.0 (rested_callback q.limits l.moment alive.0 a b) p l q (open_not_over p.processor.stage o) (same ∙ alive.1.limits) alive.1 w.after)
+
+-- and after a head was taken up or refused
+pub opened_alive : (rules : List Rule) (p : LiveParts) (l : LineParts) (q : ProcessorParts) → IsAlive p → is_over_at p.processor.stage ≡ false → q.limits ≡ p.processor.limits → ((T : Trace) → Serves T p.line p.processor → TakesUp rules T l q) → IsAlive (record p { line = l; processor = q })
+opened_alive rules p l q alive kept same takes =
+    let w = takes alive.0 alive.1.serves in
+    (rested q.limits l.moment w.trace, served_lives alive.0 (rested q.limits l.moment w.trace) p l q kept (same ∙ alive.1.limits) alive.1 w.after)

@@ -318,16 +318,27 @@ mod tests {
     fn names_each_job(rt: HostRuntime) -> Result<(), Fail> {
         let jobs = [
             Job::Service { part: 3 },
-            Job::Again { part: 4_294_967_295 },
+            Job::Again {
+                part: 4_294_967_295,
+            },
             Job::Resume,
             Job::Readable,
             Job::AllRead,
             Job::Writable,
             Job::ReadError,
             Job::WriteError,
-            Job::OnTimeout { listener: 0, tag: 255 },
-            Job::OnError { listener: 15, tag: 0 },
-            Job::OnComplete { listener: 1, tag: 2 },
+            Job::OnTimeout {
+                listener: 0,
+                tag: 255,
+            },
+            Job::OnError {
+                listener: 15,
+                tag: 0,
+            },
+            Job::OnComplete {
+                listener: 1,
+                tag: 2,
+            },
         ];
         let lines =
             b"1 Begun service 3\n2 Begun again 4294967295\n3 Begun resume\n4 Begun readable\n5 Begun allread\n6 Begun writable\n7 Begun readerror\n8 Begun writeerror\n9 Begun ontimeout 0 255\n10 Begun onerror 15 0\n11 Begun oncomplete 1 2\n";

@@ -4,8 +4,14 @@ use Rattle.cy_proc.specs.LineChanges.{is_due}
 use Rattle.cy_proc.specs.Lines.{LineParts}
 use Rattle.cy_proc.specs.Processors.{ProcessorParts, is_open_at, is_over_at}
 use Rattle.cyctl.specs.Parts.{LiveParts}
-use Rattle.cyctl.proofs.Lives.{alive_limits, next_lives, rest_settles}
+use Rattle.cyctl.proofs.Lives.{alive_limits, next_lives, opened_alive, rest_settles}
 use Rattle.cyctl.proofs.live.Live.settle.Goals as goal
+
+pub invariant_of-self : goal.invariant_of-self
+invariant_of-self c =
+    opened_alive c.args.rules.now _ c.open-done.new.line c.open-done.new.self c.self.invariant
+    (ap (λ (k : LiveParts). is_over_at k.processor.stage) c.self.view_is ∙ ap (λ (q : ProcessorParts). is_over_at q.stage) c.is_due.ensures.processor ∙ c.loop-self.invariant.kept)
+    c.open-done.ensures.limits c.open-done.ensures.takes
 
 pub loop-self-preserved : goal.loop-self-preserved
 loop-self-preserved c = record {
