@@ -50,14 +50,14 @@ rule_first : {A : Type 0} (before : List Rule) (ms : Members) (f : Rule → Resu
     → (read_rule (length before) ms >>= f) ≡ unless (refusals_in_rule before ms) answer
 rule_first before ms f answer next =
     five_then (filter_map (unknown_in_rule (length before)) (keys ms)) (refusals_of (in_rule (length before) pattern) is_text true (get_member pattern ms))
-      (refusals_of (in_rule (length before) part) is_part true (get_member part ms)) (refusals_of (in_rule (length before) async) is_flag false (get_member async ms))
-      (bad_pattern (length before) (pattern_of ms)) (Ok (rule_of ms)) f
+    (refusals_of (in_rule (length before) part) is_part true (get_member part ms)) (refusals_of (in_rule (length before) async) is_flag false (get_member async ms))
+    (bad_pattern (length before) (pattern_of ms)) (Ok (rule_of ms)) f
     ∙ ap (λ (r : Result _ SetFault). unless (filter_map (unknown_in_rule (length before)) (keys ms)) (unless (refusals_of (in_rule (length before) pattern) is_text true (get_member pattern ms))
-      (unless (refusals_of (in_rule (length before) part) is_part true (get_member part ms)) (unless (refusals_of (in_rule (length before) async) is_flag false (get_member async ms))
-      (unless (bad_pattern (length before) (pattern_of ms)) r))))) next
+    (unless (refusals_of (in_rule (length before) part) is_part true (get_member part ms)) (unless (refusals_of (in_rule (length before) async) is_flag false (get_member async ms))
+    (unless (bad_pattern (length before) (pattern_of ms)) r))))) next
     ∙ sym (six (filter_map (unknown_in_rule (length before)) (keys ms)) (refusals_of (in_rule (length before) pattern) is_text true (get_member pattern ms))
-      (refusals_of (in_rule (length before) part) is_part true (get_member part ms)) (refusals_of (in_rule (length before) async) is_flag false (get_member async ms))
-      (bad_pattern (length before) (pattern_of ms)) (repeated_pattern before (pattern_of ms)) answer)
+    (refusals_of (in_rule (length before) part) is_part true (get_member part ms)) (refusals_of (in_rule (length before) async) is_flag false (get_member async ms))
+    (bad_pattern (length before) (pattern_of ms)) (repeated_pattern before (pattern_of ms)) answer)
 
 abbrev rule_at : Data → Rule
 rule_at value = rule_of (members_in value)
@@ -76,9 +76,9 @@ first_refusal top =
     let rules = get_member rule top in
     let ms = members_found found in
     ap (λ (r : Result (List Rule) SetFault). unless (filter_map unknown_at_top (keys top)) (unless (refusals_of connector is_table false found) (unless (filter_map refused_key (entries ms)) (unless (too_many_threads ms)
-      (unless (refusals_of rule is_rule_list false rules) (r >>= (λ (read : List Rule). Ok (values_of ms read)))))))) (rules_first [] (elements_found rules))
+    (unless (refusals_of rule is_rule_list false rules) (r >>= (λ (read : List Rule). Ok (values_of ms read)))))))) (rules_first [] (elements_found rules))
     ∙ ap (λ (r : Result Values SetFault). unless (filter_map unknown_at_top (keys top)) (unless (refusals_of connector is_table false found) (unless (filter_map refused_key (entries ms)) (unless (too_many_threads ms)
-      (unless (refusals_of rule is_rule_list false rules) r))))) (unless-then (refusals_in_rules [] (elements_found rules)) _ (λ (read : List Rule). Ok (values_of ms read)))
+    (unless (refusals_of rule is_rule_list false rules) r))))) (unless-then (refusals_in_rules [] (elements_found rules)) _ (λ (read : List Rule). Ok (values_of ms read)))
     ∙ sym (six (filter_map unknown_at_top (keys top)) (refusals_of connector is_table false found) (filter_map refused_key (entries ms)) (too_many_threads ms) (refusals_of rule is_rule_list false rules) (refusals_in_rules [] (elements_found rules)) _)
 
 -- ---- one outcome
@@ -176,7 +176,7 @@ same_tables (member k d ms) (member l e ns) p q same =
     let one = splits k d ms p in
     let other = splits k e ns (subst (λ (m : List ℕ). members_are_sorted (member m e ns) ≡ true) key q) in
     let rest : ms ≡ ns = same_tables ms ns one.order other.order
-        (λ x. tail_at (slice_cmp nat_cmp x k) x k d e ms ns refl (below_first ms k one.before one.order) (below_first ns k other.before other.order) (alike x)) in
+    (λ x. tail_at (slice_cmp nat_cmp x k) x k d e ms ns refl (below_first ms k one.before one.order) (below_first ns k other.before other.order) (alike x)) in
     let value : d ≡ e = same_value k d e ms ns (alike k) in
     ap (λ (v : Data). member k v ms) value ∙ ap (member k e) rest ∙ ap (λ (m : List ℕ). member m e ns) (sym key)
 

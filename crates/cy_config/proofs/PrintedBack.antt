@@ -53,8 +53,18 @@ rules_are_listed rules few =
 
 keys_are_fine : (values : Values) → AreSettings values → filter_map refused_key (entries (connector_of values told)) ≡ []
 keys_are_fine values are =
-    rw (are.in_range AsyncTimeout, are.in_range ConnectionTimeout, are.in_range MaxConnections, are.in_range MaxHeaderCount, are.in_range MaxHttpHeaderSize,
-      are.in_range MaxKeepAliveRequests, are.in_range MaxSwallowSize, are.threads.most, are.in_range MaxTrailerSize, are.threads.least) refl
+    rw (
+      are.in_range AsyncTimeout,
+      are.in_range ConnectionTimeout,
+      are.in_range MaxConnections,
+      are.in_range MaxHeaderCount,
+      are.in_range MaxHttpHeaderSize,
+      are.in_range MaxKeepAliveRequests,
+      are.in_range MaxSwallowSize,
+      are.threads.most,
+      are.in_range MaxTrailerSize,
+      are.threads.least,
+    ) refl
 
 threads_are_fine : (values : Values) → AreSettings values → too_many_threads (connector_of values told) ≡ []
 threads_are_fine values are = rw (le-leb _ _ are.threads.ordered) refl
@@ -103,15 +113,27 @@ pub means_back : (text : List ℕ) (values : Values) (top : Members) → AreSett
     → Means text (Ok (at_default_port values))
 means_back text values top are same utf8 parsed =
     let read : parse_document text ≡ Some (printed values) =
-        subst (λ (ms : Members). members_depth ms ≤ 80 → parse_document text ≡ Some ms) same parsed (printed_depth values) in
+    subst (λ (ms : Members). members_depth ms ≤ 80 → parse_document text ≡ Some ms) same parsed (printed_depth values) in
     inl (printed values, record { utf8 = utf8; parsed = read }, sym (printed_back values are))
 
 -- ---- with the port
 
 keys_with_port_are_fine : (values : Values) → AreSettings values → values.port ≤ 65535 → filter_map refused_key (entries (connector_of values settings)) ≡ []
 keys_with_port_are_fine values are port =
-    rw (are.in_range AsyncTimeout, are.in_range ConnectionTimeout, are.in_range MaxConnections, are.in_range MaxHeaderCount, are.in_range MaxHttpHeaderSize,
-      are.in_range MaxKeepAliveRequests, are.in_range MaxSwallowSize, are.threads.most, are.in_range MaxTrailerSize, are.threads.least, le-leb 0 values.port (omega arith), le-leb values.port 65535 port) refl
+    rw (
+      are.in_range AsyncTimeout,
+      are.in_range ConnectionTimeout,
+      are.in_range MaxConnections,
+      are.in_range MaxHeaderCount,
+      are.in_range MaxHttpHeaderSize,
+      are.in_range MaxKeepAliveRequests,
+      are.in_range MaxSwallowSize,
+      are.threads.most,
+      are.in_range MaxTrailerSize,
+      are.threads.least,
+      le-leb 0 values.port (omega arith),
+      le-leb values.port 65535 port,
+    ) refl
 
 threads_with_port_are_fine : (values : Values) → AreSettings values → too_many_threads (connector_of values settings) ≡ []
 threads_with_port_are_fine values are = rw (le-leb _ _ are.threads.ordered) refl

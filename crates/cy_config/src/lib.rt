@@ -11,7 +11,10 @@ mod settings;
 mod values;
 
 pub use fault::SetFault;
-pub use laws::{keys_are_in_any_order, outcome_is_the_first_refusal, settings_are_written, texts_have_one_outcome};
+pub use laws::{
+    keys_are_in_any_order, outcome_is_the_first_refusal, settings_are_written,
+    texts_have_one_outcome,
+};
 pub use printing::print_settings;
 pub use reading::read_settings;
 pub use settings::{Settings, TOLD};

@@ -85,7 +85,12 @@ fn rule_of(alloc: Global, rule: &Rule) -> Result<Value, AllocError>
     let pattern = text_of(rule.pattern.as_slice());
     let mut table = Table::new(alloc);
     insert(alloc, &mut table, "async", Value::Boolean(rule.can_async))?;
-    insert(alloc, &mut table, "part", Value::Integer(i64::from(rule.part)))?;
+    insert(
+        alloc,
+        &mut table,
+        "part",
+        Value::Integer(i64::from(rule.part)),
+    )?;
     insert(alloc, &mut table, "pattern", Value::string(alloc, pattern)?)?;
     Ok(Value::Table(table))
 }

@@ -57,7 +57,10 @@ fn the_first_refusal_is_told(rt: HostRuntime) -> Result<(), Fail> {
             b"connector.maxConnections = 0\n",
             b"connector.maxConnections 0",
         ),
-        (b"connector.maxThreads = 3\n", b"connector.minSpareThreads 4"),
+        (
+            b"connector.maxThreads = 3\n",
+            b"connector.minSpareThreads 4",
+        ),
         (b"rule = [1]\n", b"rule list"),
         (
             b"rule = [{pattern = '/', part = 0}, {pattern = '/', part = 0}]\n",

@@ -13,8 +13,8 @@ ghost use Rattle.cy_config.specs.Texts.{Checks, shown};
 
 use crate::fault::SetFault;
 use crate::members::{bad_value, bytes_of, in_connector, integer_at, value_at};
-use cy_bytes::Bytes;
 use crate::settings::Settings;
+use cy_bytes::Bytes;
 use cy_map::Rule;
 use cy_settings::{Limit, Limits, Rules, Setting, parts_of};
 use std::alloc::{AllocError, Global};

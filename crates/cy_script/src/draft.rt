@@ -82,7 +82,11 @@ impl Draft {
     {
         match statement {
             Statement::Nothing => Ok(()),
-            Statement::Set(setting, value) => self.set_limits(with_setting(setting, value, self.limits)),
+            Statement::Set(setting, value) => self.set_limits(with_setting(
+                setting,
+                value,
+                self.limits,
+            )),
             Statement::NoLimit => self.set_limits(Limits {
                 max_keep_alive: -1,
                 ..self.limits

@@ -17,20 +17,20 @@ table_in-table-requires c =
 pub returns-in_err-rule-clause-read : goal.returns-in_err-rule-clause-read
 returns-in_err-rule-clause-read c =
     reads_refused _ c.from_residual.result c.in_err-rule.field-0.0 _ c.from_residual.ensures.1 (λ other.
-        let number : c.len.result ≡ length c.loop-value.rules.items = grind (arith, common_steps) in
-        let read : read_rule (length c.loop-value.rules.items) (members_in (view c.value-item.result)) ≡ Err c.in_err-rule.field-0.0 =
-            same_read _ c.len.result _ (table_view c.table_in-table.result.now) _ number c.table_in-table.ensures (c.in_err-rule.ensures.read other) in
-        c.loop-value.invariant.read
-        ∙ rest_read c.loop-value.rules.items c.args.values.now c.loop-value.value-index c.value-item.result c.loop-value-test.true c.value-item.is
-        ∙ rule_refused c.loop-value.rules.items (view c.value-item.result) (map view (drop (c.loop-value.value-index + 1) c.args.values.now)) c.in_err-rule.field-0.0 read)
+    let number : c.len.result ≡ length c.loop-value.rules.items = grind (arith, common_steps) in
+    let read : read_rule (length c.loop-value.rules.items) (members_in (view c.value-item.result)) ≡ Err c.in_err-rule.field-0.0 =
+    same_read _ c.len.result _ (table_view c.table_in-table.result.now) _ number c.table_in-table.ensures (c.in_err-rule.ensures.read other) in
+    c.loop-value.invariant.read
+    ∙ rest_read c.loop-value.rules.items c.args.values.now c.loop-value.value-index c.value-item.result c.loop-value-test.true c.value-item.is
+    ∙ rule_refused c.loop-value.rules.items (view c.value-item.result) (map view (drop (c.loop-value.value-index + 1) c.args.values.now)) c.in_err-rule.field-0.0 read)
 
 pub returns-then-not-branch-clause-read : goal.returns-then-not-branch-clause-read
 returns-then-not-branch-clause-read c = λ other.
     let number : c.len.result ≡ length c.loop-value.rules.items = grind (arith, common_steps) in
     let read : read_rule (length c.loop-value.rules.items) (members_in (view c.value-item.result)) ≡ Ok c.in_ok-rule.rule =
-        same_read _ c.len.result _ (table_view c.table_in-table.result.now) _ number c.table_in-table.ensures c.in_ok-rule.ensures.read in
+    same_read _ c.len.result _ (table_view c.table_in-table.result.now) _ number c.table_in-table.ensures c.in_ok-rule.ensures.read in
     let twice : has_pattern c.loop-value.rules.items c.in_ok-rule.rule.pattern ≡ true =
-        found_twice c.in_ok-insert.field-0 c.pattern_at.result c.loop-value.patterns.keys c.loop-value.rules.items c.in_ok-rule.rule c.in_ok-insert.ensures.added (grind (arith, common_steps)) (c.in_ok-rule.ensures.pattern ∙ sym c.pattern_at.ensures) c.loop-value.invariant.patterns in
+    found_twice c.in_ok-insert.field-0 c.pattern_at.result c.loop-value.patterns.keys c.loop-value.rules.items c.in_ok-rule.rule c.in_ok-insert.ensures.added (grind (arith, common_steps)) (c.in_ok-rule.ensures.pattern ∙ sym c.pattern_at.ensures) c.loop-value.invariant.patterns in
     c.loop-value.invariant.read
     ∙ rest_read c.loop-value.rules.items c.args.values.now c.loop-value.value-index c.value-item.result c.loop-value-test.true c.value-item.is
     ∙ rule_twice c.loop-value.rules.items (view c.value-item.result) (map view (drop (c.loop-value.value-index + 1) c.args.values.now)) c.in_ok-rule.rule read twice
@@ -40,9 +40,9 @@ pub loop-value-preserved : goal.loop-value-preserved
 loop-value-preserved c =
     let number : c.len.result ≡ length c.loop-value.rules.items = grind (arith, common_steps) in
     let read : read_rule (length c.loop-value.rules.items) (members_in (view c.value-item.result)) ≡ Ok c.in_ok-rule.rule =
-        same_read _ c.len.result _ (table_view c.table_in-table.result.now) _ number c.table_in-table.ensures c.in_ok-rule.ensures.read in
+    same_read _ c.len.result _ (table_view c.table_in-table.result.now) _ number c.table_in-table.ensures c.in_ok-rule.ensures.read in
     let fresh : has_pattern c.loop-value.rules.items c.in_ok-rule.rule.pattern ≡ false =
-        found_fresh c.in_ok-insert.field-0 c.pattern_at.result c.loop-value.patterns.keys c.loop-value.rules.items c.in_ok-rule.rule c.in_ok-insert.ensures.added (grind (arith, common_steps)) (c.in_ok-rule.ensures.pattern ∙ sym c.pattern_at.ensures) c.loop-value.invariant.patterns in
+    found_fresh c.in_ok-insert.field-0 c.pattern_at.result c.loop-value.patterns.keys c.loop-value.rules.items c.in_ok-rule.rule c.in_ok-insert.ensures.added (grind (arith, common_steps)) (c.in_ok-rule.ensures.pattern ∙ sym c.pattern_at.ensures) c.loop-value.invariant.patterns in
     let few : length c.loop-value.rules.items < 1024 = omega (arith, c.loop-value.invariant.count, c.requires.few) in
     let pushed : c.push.new.self.items ≡ c.loop-value.rules.items ++ c.in_ok-rule.rule ∷ [] = grind (arith, common_steps) in
     record {

@@ -15,5 +15,5 @@ returns-in-Some-as_array-clause-found c =
 pub returns-in-Some-as_array-clause-tables : goal.returns-in-Some-as_array-clause-tables
 returns-in-Some-as_array-clause-tables c =
     let both : (list_all (λ (v : Value). is_table (view v)) c.in-Some-as_array.values.now.items && leb (length c.in-Some-as_array.values.now.items) 1024) ≡ true =
-        rw c.deref.ensures.value at (sym c.if-are_rules.ensures) in
+    rw c.deref.ensures.value at (sym c.if-are_rules.ensures) in
     rw c.as_slice.ensures.value (list_all-map is_table view c.in-Some-as_array.values.now.items ∙ (and_parts (list_all (λ (v : Value). is_table (view v)) c.in-Some-as_array.values.now.items) _ both).0)
