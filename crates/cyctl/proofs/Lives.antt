@@ -33,7 +33,7 @@ use Rattle.cy_proc.specs.declared.processor.Stage.TheVariants as stage
 use Rattle.cy_proc.proofs.Lines.{plainly}
 use Rattle.cy_proc.proofs.Plain.{rested_open}
 use Rattle.cy_proc.proofs.Requests.{SameRequests, event_same, rested_same, stands_free, stands_idle, stands_open, stands_same}
-use Rattle.cyctl.specs.Lives.{AnswersLive, AnswersTurn, IsAlive, RestsEach, SettlesEach}
+use Rattle.cyctl.specs.Lives.{AnswersLive, AnswersTurn, IsAlive, KeepsEach, RestsEach, SettlesEach}
 use Rattle.cyctl.specs.Parts.{LiveParts, Lives}
 
 -- ---- the line alone goes on
@@ -391,3 +391,17 @@ pub opened_alive : (rules : List Rule) (p : LiveParts) (l : LineParts) (q : Proc
 opened_alive rules p l q alive kept same takes =
     let w = takes alive.0 alive.1.serves in
     (rested q.limits l.moment w.trace, served_lives alive.0 (rested q.limits l.moment w.trace) p l q kept (same ∙ alive.1.limits) alive.1 w.after)
+
+-- a refused act keeps limits and moment, and its request is still open
+pub refused_keeps : (a : Act) (b into : List ℕ) (r : Reply) (p : LiveParts) (l : LineParts) (q : ProcessorParts) → IsAlive p → is_refusal r ≡ true → is_open_at p.processor.stage ≡ true → l.moment ≡ max p.line.moment 0 → into ≡ none → AnswersEachAct a b p.line p.processor r into l q → KeepsEach p (record p { line = l; processor = q })
+refused_keeps a b into r p l q alive refused_now o later empty answers =
+    let T = alive.0 in
+    let w = answers T alive.1.serves in
+    let replied : plain r ≡ callback_reply q.limits T a = sym (ap (replied_in r) empty ∙ no_room r) ∙ w.reply in
+    let here : is_refusal (callback_reply q.limits T a).reply ≡ true = sym (ap (λ (x : Replied). is_refusal x.reply) replied) ∙ refused_now in
+    let after : Serves T l q = subst (λ (R : Trace). Serves R l q) (callback_refused q.limits l.moment T a b here) w.after.serves in
+    record {
+      limits = refl;
+      moment = later ∙ last_moment p.line.moment;
+      kept = λ e. open_not_over q.stage (sym (stands_open T q after.processor) ∙ stands_open T p.processor alive.1.serves.processor ∙ o);
+    }
