@@ -1,22 +1,29 @@
 // What the contracts leave open: that texts are read and written with ample memory.
 use super::*;
 use cy_settings::{Limit, Setting};
-use std::alloc::Global;
+use std::alloc::{AllocError, Global};
 use std::test::Fail;
 
-/// The refusal of a text, as `<name> <value>`; empty where it is read.
+/// Appends a refusal, as `<name> <value>`.
+fn tell(told: &mut Vec<u8>, fault: SetFault) -> Result<(), AllocError> {
+    match fault {
+        SetFault::NotToml => told.extend_from_slice(b"not toml"),
+        SetFault::UnknownKey { name } => told.extend_from_slice(name.as_slice()),
+        SetFault::BadSetting { name, value } => {
+            told.extend_from_slice(name.as_slice())?;
+            told.extend_from_slice(b" ")?;
+            told.extend_from_slice(value.as_slice())
+        }
+        SetFault::NoMemory => told.extend_from_slice(b"no memory"),
+    }
+}
+
+/// The refusal of a text; empty where it is read.
 fn refusal(alloc: Global, text: &[u8]) -> Result<Vec<u8>, Fail> {
     let mut told = Vec::new(alloc);
     match read_settings(alloc, text) {
-        Ok(_) => {}
-        Err(SetFault::NotToml) => told.extend_from_slice(b"not toml")?,
-        Err(SetFault::UnknownKey { name }) => told.extend_from_slice(name.as_slice())?,
-        Err(SetFault::BadSetting { name, value }) => {
-            told.extend_from_slice(name.as_slice())?;
-            told.extend_from_slice(b" ")?;
-            told.extend_from_slice(value.as_slice())?;
-        }
-        Err(SetFault::NoMemory) => told.extend_from_slice(b"no memory")?,
+        Ok(_read) => {}
+        Err(fault) => tell(&mut told, fault)?,
     }
     Ok(told)
 }
