@@ -1,0 +1,6 @@
+use Rattle.std.proofs.Common.{rules}
+use Rattle.cy_pool.proofs.Moves.{takes}
+use Rattle.cy_pool.proofs.pool.Pool.take.Goals as goal
+
+pub pop_as-requires-clause-rule : goal.pop_as-requires-clause-rule
+pop_as-requires-clause-rule g c = (takes _ _ (search rules) (search rules), λ items views h at. tt)

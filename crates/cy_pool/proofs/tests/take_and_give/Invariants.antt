@@ -1,0 +1,5 @@
+use Rattle.cy_pool.specs.Stocks.{IsIdleSeatOf}
+use Rattle.cy_pool.proofs.tests.take_and_give.Given as goal
+
+abbrev pub invariant-loop : goal.invariant-loop
+invariant-loop g l = IsIdleSeatOf l.pool l.seat

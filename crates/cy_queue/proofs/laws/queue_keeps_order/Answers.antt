@@ -1,0 +1,5 @@
+use Rattle.cy_queue.proofs.Order.{keeps_order}
+use Rattle.cy_queue.proofs.laws.queue_keeps_order.Goals as goal
+
+pub returns : goal.returns
+returns c = keeps_order

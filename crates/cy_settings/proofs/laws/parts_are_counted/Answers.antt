@@ -1,0 +1,5 @@
+use Rattle.cy_settings.proofs.SettingLaws.{counts_parts}
+use Rattle.cy_settings.proofs.laws.parts_are_counted.Goals as goal
+
+pub returns : goal.returns
+returns c = counts_parts

@@ -1,0 +1,5 @@
+use Rattle.std.proofs.Common.{refl}
+use Rattle.cy_settings.proofs.laws.settings_are_the_table.Goals as goal
+
+pub returns : goal.returns
+returns c = refl
