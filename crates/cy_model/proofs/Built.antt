@@ -1,5 +1,5 @@
 -- What holds of a trace in which nothing stands that isn't built yet, and that the trace of any entries is such a one.
-use Rattle.std.proofs.Common.{◌≡◌, ◌≢◌, ◌≤◌, ◌⊎◌, ⊎_elim, ℕ, ltb-true, ◌+◌, ◌-◌, Bool, true, false, not, ◌&&◌, ◌||◌, List, [], ◌∷◌, ◌++◌, All, drop, Option, Some, None, is_none, is_some, option_map, cond, refl, sym, ap, ◌∙◌, subst, arith, ◌==◌, nat_lt, if◌then◌else◌}
+use Rattle.std.proofs.Common.{◌≡◌, ℕ, ltb-true, ◌+◌, ◌-◌, Bool, true, false, not, ◌&&◌, ◌||◌, List, [], ◌∷◌, ◌++◌, Option, Some, None, is_none, is_some, option_map, cond, refl, sym, ap, ◌∙◌, subst, arith, nat_lt, if◌then◌else◌}
 use Rattle.std.proofs.lemmas.Bool.{and_parts}
 use Rattle.cy_event.specs.declared.body.BodyMark.{BodyMark}
 use Rattle.cy_event.specs.declared.framing.Framing.{Framing}
@@ -15,19 +15,19 @@ use Rattle.cy_event.specs.declared.steps.State.{State}
 use Rattle.cy_event.specs.declared.steps.State.TheVariants as state
 use Rattle.cy_event.specs.Answers.{Answer}
 use Rattle.cy_event.specs.Answering.{Answering, Commit, Sending, Took, after_finish, can_take, cut, is_full, is_short, mode_in, more_by, push_byte, push_bytes, set_length_of, whole_length_of, with_head, with_room}
-use Rattle.cy_event.specs.Bodies.{body_start, is_bad}
-use Rattle.cy_event.specs.Callbacks.{Context, is_owed_to_listener, makes_calls, no_context}
-use Rattle.cy_event.specs.ReadyListeners.{ReadyListeners, no_listeners}
+use Rattle.cy_event.specs.Bodies.{body_start}
+use Rattle.cy_event.specs.Callbacks.{Context, is_owed_to_listener, no_context}
+use Rattle.cy_event.specs.ReadyListeners.{no_listeners}
 use Rattle.cy_event.specs.Table.{next_state, row}
 use Rattle.cy_event.specs.Framings.{bad_request}
 use Rattle.cy_model.specs.Endings.{cause_behind, cause_marks, closing_marks_by, end_marks, ends_closed, ends_short, failure_marks, finished_answer, hears_fault, is_bad_request}
-use Rattle.cy_model.specs.Folds.{Parked, after_call_at, after_started, bytes_of, cause_of, context_of, has_ended, is_broken, is_open, is_served, last_taken, parked_callback, part_of, ready_listeners, running, state_of}
+use Rattle.cy_model.specs.Folds.{after_call_at, after_started, bytes_of, cause_of, context_of, has_ended, is_broken, is_open, is_served, last_taken, parked_callback, part_of, ready_listeners, running, state_of}
 use Rattle.cy_model.specs.Inputs.{behind_head, given_count, has_bad_body, has_whole_body, is_end_told, scan_by, scan_of, swallowed, used, used_at_end, used_by_given}
-use Rattle.cy_model.specs.Jobs.{Asking, asking, first_job, first_owed, job_owed, next_job, ready_in, resumed, service_in}
-use Rattle.cy_model.specs.Marks.{Mark, TakenUp, Trace, opened, ended, came, sent, began, refused, called, started, parked, back, given, end_given, listened, timeout_set, read_listener_set, write_listener_set, not_ready, status_set, field_added, length_set, answer_reset, put, flushed, nothing_to_flush, error_answer, aborted, over, caused, broken}
+use Rattle.cy_model.specs.Jobs.{asking, first_job, first_owed, job_owed, next_job, ready_in, resumed, service_in}
+use Rattle.cy_model.specs.Marks.{Mark, TakenUp, Trace, began, refused, called, started, parked, back, given, end_given, listened, timeout_set, read_listener_set, write_listener_set, not_ready, length_set, answer_reset, put, flushed, error_answer, aborted, over, broken}
 use Rattle.cy_model.specs.Outputs.{answer_of, answering_of, end_by, is_aborted, is_silent, said_by, sending_of}
-use Rattle.cy_model.specs.Settling.{Move, body_cause, body_cause_by, body_move, cause_and_fault, input_move, is_quiet, return_marks_in, return_move, swallow_place}
-use Rattle.cy_model.specs.Unbuilt.{NothingUnbuilt, is_unbuilt, is_unbuilt_call, is_unbuilt_job, is_unbuilt_request}
+use Rattle.cy_model.specs.Settling.{body_cause, body_cause_by, body_move, cause_and_fault, input_move, is_quiet, return_marks_in, return_move}
+use Rattle.cy_model.specs.Unbuilt.{NothingUnbuilt, is_unbuilt, is_unbuilt_call, is_unbuilt_job}
 use Rattle.cy_model.specs.Verdicts.{is_framed, is_head_method}
 use Rattle.cy_model.proofs.Places.{whole_stays}
 

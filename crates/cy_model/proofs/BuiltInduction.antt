@@ -13,7 +13,7 @@ use Rattle.cy_model.specs.Endings.{end_marks, hears_fault, server_error}
 use Rattle.cy_model.specs.Entries.{Entry, is_closed_to, job_marks, return_marks, trace_of}
 use Rattle.cy_model.specs.Folds.{running}
 use Rattle.cy_model.specs.Jobs.{next_job}
-use Rattle.cy_model.specs.Marks.{Mark, opened, ended, came, sent, began, refused, called, put, error_answer, aborted, caused, TakenUp, Trace}
+use Rattle.cy_model.specs.Marks.{opened, ended, came, sent, began, refused, called, put, error_answer, aborted, caused, TakenUp, Trace}
 use Rattle.cy_model.specs.Outputs.{answer_of}
 use Rattle.cy_model.specs.Settling.{due_of, may_begin, not_found, refusal, request, with_marks}
 use Rattle.cy_model.proofs.BuiltKept.{IsBuilt, built_kept, nothing_built}

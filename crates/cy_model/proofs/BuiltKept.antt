@@ -12,7 +12,7 @@ use Rattle.cy_event.specs.Table.{is_end, row}
 use Rattle.cy_map.specs.declared.rule.Rule.{Rule}
 use Rattle.cy_model.specs.Endings.{cause_behind, cause_marks, end_marks, ends_closed}
 use Rattle.cy_model.specs.Entries.{Entry, end_marks_where, job_marks, return_marks, trace_of}
-use Rattle.cy_model.specs.Folds.{cause_of, earlier, is_open, running, state_of}
+use Rattle.cy_model.specs.Folds.{cause_of, earlier, is_open, running}
 use Rattle.cy_model.specs.Inputs.{has_whole_body}
 use Rattle.cy_model.specs.Marks.{Mark, TakenUp, Trace, back, began, called, error_answer, over}
 use Rattle.cy_model.specs.Settling.{body_cause, due_of, not_found, request, with_marks}

@@ -1,9 +1,9 @@
 -- The marks that moves make are the container's.
-use Rattle.std.proofs.Common.{◌≡◌, ℕ, Bool, true, false, List, [], ◌∷◌, ◌++◌, Option, Some, None, refl, sym, ap, ◌∙◌, subst, if◌then◌else◌}
+use Rattle.std.proofs.Common.{◌≡◌, ℕ, Bool, true, false, List, [], ◌∷◌, ◌++◌, Option, Some, None, refl, sym, ◌∙◌, subst, if◌then◌else◌}
 use Rattle.cy_event.specs.declared.limits.Limits.{Limits}
 use Rattle.cy_event.specs.declared.steps.Call.TheVariants as call
 use Rattle.cy_event.specs.declared.steps.CloseCause.{CloseCause}
-use Rattle.cy_event.specs.declared.steps.CloseCause.TheVariants.{InputEnd, LastAnswer, Refused}
+use Rattle.cy_event.specs.declared.steps.CloseCause.TheVariants.{InputEnd, Refused}
 use Rattle.cy_event.specs.declared.steps.State.{State}
 use Rattle.cy_event.specs.declared.steps.State.TheVariants as state
 use Rattle.cy_event.specs.Framings.{bad_request}
@@ -13,7 +13,7 @@ use Rattle.cy_model.specs.Folds.{cause_of, state_of}
 use Rattle.cy_model.specs.Laws.{AllContainers, MovesAreTheContainers, is_containers}
 use Rattle.cy_model.specs.Marks.{Mark, Trace, began, called, caused, error_answer, over, refused}
 use Rattle.cy_model.specs.Outputs.{is_aborted, is_committed}
-use Rattle.cy_model.specs.Settling.{Due, Move, cause_and_fault, due_move, due_of, first_move, head_move, last_answer_marks, next_move, nothing, not_found, quiet_moves, refusal, request, return_marks_in, settled, with_marks}
+use Rattle.cy_model.specs.Settling.{Due, Move, cause_and_fault, due_move, due_of, first_move, head_move, last_answer_marks, nothing, not_found, quiet_moves, refusal, request, return_marks_in, settled, with_marks}
 use Rattle.cy_model.specs.Verdicts.{not_found_status}
 use Rattle.cy_model.proofs.Moves.{quiet_cases}
 use Rattle.cy_model.proofs.Settlings.{earlier_move, head_move-parts, last_move, settled-keeps-by}

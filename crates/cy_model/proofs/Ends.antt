@@ -10,11 +10,11 @@ use Rattle.cy_event.specs.declared.steps.Job.{Job}
 use Rattle.cy_event.specs.Answers.{refusal_text}
 use Rattle.cy_map.specs.declared.rule.Rule.{Rule}
 use Rattle.cy_model.specs.Endings.{end_marks}
-use Rattle.cy_model.specs.Entries.{is_closed_to, return_marks, trace_of}
+use Rattle.cy_model.specs.Entries.{is_closed_to, trace_of}
 use Rattle.cy_model.specs.Folds.{calls, cause_of, earlier, ended_charts, has_ended, is_open, requests_of, running}
 use Rattle.cy_model.specs.Inputs.{has_whole_body}
 use Rattle.cy_model.specs.Laws.{RefusalsAreTold, RequestsEndOnce, TakeTurns, TellsRefusal}
-use Rattle.cy_model.specs.Marks.{began, called, error_answer, aborted, over, sent, started, TakenUp, Trace}
+use Rattle.cy_model.specs.Marks.{began, called, error_answer, aborted, sent, started, Trace}
 use Rattle.cy_model.specs.Outputs.{answering_of, output, writing}
 use Rattle.cy_model.specs.Settling.{bad_place, body_cause, body_cause_by, due_of, swallow_place, with_marks}
 use Rattle.cy_model.specs.Verdicts.{not_found_status}

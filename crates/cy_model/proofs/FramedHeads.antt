@@ -1,13 +1,12 @@
 -- Each request that is taken up has the framing that its head has, and none that isn't served yet.
-use Rattle.std.proofs.Common.{◌≡◌, ◌⊎◌, ⊎_elim, ℕ, ◌+◌, Bool, true, false, List, [], ◌∷◌, ◌++◌, All, Option, Some, None, Result, Ok, Err, refl, sym, ap, ◌∙◌, subst, if◌then◌else◌}
+use Rattle.std.proofs.Common.{◌≡◌, ◌⊎◌, ⊎_elim, ℕ, ◌+◌, true, false, List, ◌∷◌, All, Option, Some, None, Result, Ok, Err, refl, sym, ◌∙◌, subst, if◌then◌else◌}
 use Rattle.std.proofs.lemmas.List.Elements.{All-nil, All-push}
 use Rattle.cy_event.specs.declared.limits.Limits.{Limits}
-use Rattle.cy_event.specs.Framings.{Framed, bad_request, framed, not_implemented}
+use Rattle.cy_event.specs.Framings.{Framed, framed, not_implemented}
 use Rattle.cy_event.specs.Heads.{Head}
 use Rattle.cy_event.specs.Targets.{PathAndQuery, target_of}
 use Rattle.cy_map.specs.declared.rule.Rule.{Rule}
 use Rattle.cy_map.specs.Mapping.{mapped}
-use Rattle.cy_model.specs.Entries.{Entry, trace_of}
 use Rattle.cy_model.specs.Folds.{begun_count, requests_of}
 use Rattle.cy_model.specs.Laws.{IsFramedByHead, RequestsAreFramed}
 use Rattle.cy_model.specs.Marks.{Mark, began, TakenUp, Trace}

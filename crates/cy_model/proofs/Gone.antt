@@ -1,5 +1,5 @@
 -- A connection that is gone stays gone, and nothing is added to its output.
-use Rattle.std.proofs.Common.{◌≡◌, ℕ, Bool, true, false, not, ◌&&◌, ◌==◌, cond, leb, List, [], ◌∷◌, length, Option, Some, None, is_none, is_some, option_map, refl, ap, ◌∙◌, if◌then◌else◌}
+use Rattle.std.proofs.Common.{◌≡◌, ℕ, Bool, true, false, not, ◌&&◌, ◌==◌, leb, List, [], ◌∷◌, length, Option, Some, None, is_none, is_some, option_map, refl, ap, ◌∙◌, if◌then◌else◌}
 use Rattle.std.proofs.lemmas.Bool.{and_left, and_parts, and_right, or_left}
 use Rattle.cy_event.specs.declared.limits.Limits.{Limits}
 use Rattle.cy_event.specs.declared.steps.CloseCause.TheVariants.{InputEnd}

@@ -1,11 +1,11 @@
 -- What came, what was taken up, what was written and the charts only grow, and a cause stays.
-use Rattle.std.proofs.Common.{◌≡◌, ℕ, Bool, true, false, length, take, drop, take-append-drop, List, [], ◌∷◌, ◌++◌, Option, None, Some, refl, sym, ap, ◌∙◌, append_assoc, append-nil, subst}
+use Rattle.std.proofs.Common.{◌≡◌, ℕ, Bool, true, false, take, drop, take-append-drop, List, [], ◌∷◌, ◌++◌, Option, None, Some, refl, sym, ap, ◌∙◌, append_assoc, append-nil, subst}
 use Rattle.cy_event.specs.declared.limits.Limits.{Limits}
 use Rattle.cy_map.specs.declared.rule.Rule.{Rule}
 use Rattle.cy_event.specs.declared.steps.CloseCause.{CloseCause}
 use Rattle.cy_event.specs.Answers.{Answer, refusal_text}
 use Rattle.cy_event.specs.AnswerModes.{last_text, piece_text}
-use Rattle.cy_event.specs.Answering.{Answering, Commit, Took, after_finish, can_take, commit_by, cut, is_full, mode_in, more_by, push_byte, push_bytes, set_length_of, whole_length_of, with_head, with_piece, with_room}
+use Rattle.cy_event.specs.Answering.{Answering, Commit, Took, after_finish, can_take, cut, is_full, mode_in, more_by, push_byte, push_bytes, set_length_of, whole_length_of, with_head, with_piece, with_room}
 use Rattle.cy_model.specs.Folds.{bytes_of, calls, cause_of, earlier, ended_charts, requests_of}
 use Rattle.cy_model.specs.Outputs.{answer_of, answering_of, begin_text, finished_by, is_silent, output, said_by, unsent, writing}
 use Rattle.cy_model.specs.Laws.{NothingIsTakenBack, OnlyGrows}

@@ -1,5 +1,5 @@
 -- The calls of each request are a legal history of the state table.
-use Rattle.std.proofs.Common.{◌≡◌, ℕ, Bool, true, false, cond, ◌&&◌, ◌||◌, List, [], ◌∷◌, ◌++◌, All, Option, Some, None, is_some, IsSome, refl, sym, ap, ◌∙◌, subst}
+use Rattle.std.proofs.Common.{◌≡◌, ℕ, Bool, true, false, cond, ◌||◌, List, [], ◌∷◌, ◌++◌, All, Option, Some, None, is_some, IsSome, refl, sym, ap, ◌∙◌, subst}
 use Rattle.std.proofs.lemmas.Bool.{and_parts, or_from}
 use Rattle.std.proofs.lemmas.List.Elements.{All-nil, All-push}
 use Rattle.cy_event.specs.declared.limits.Limits.{Limits}
@@ -17,14 +17,14 @@ use Rattle.cy_model.specs.Endings.{end_marks, hears_fault}
 use Rattle.cy_model.specs.Entries.{job_marks, return_marks, trace_of}
 use Rattle.cy_model.specs.Folds.{calls, charts, ended_charts, is_open, state_of}
 use Rattle.cy_model.specs.Laws.{ChartsAreLegal}
-use Rattle.cy_model.specs.Marks.{Mark, aborted, back, began, called, caused, error_answer, over, started, Trace}
+use Rattle.cy_model.specs.Marks.{Mark, aborted, back, began, called, caused, error_answer, started, Trace}
 use Rattle.cy_model.specs.Settling.{with_marks}
 use Rattle.cy_model.specs.Verdicts.{not_found_status}
 use Rattle.cy_model.proofs.Built.{owed_open, service_owed}
 use Rattle.cy_model.proofs.BuiltInduction.{IsKeptWhereBuilt, built_trace_keeps}
-use Rattle.cy_model.proofs.BuiltKept.{IsBuilt, ends_here, plainly}
+use Rattle.cy_model.proofs.BuiltKept.{ends_here, plainly}
 use Rattle.cy_model.proofs.Moves.{EndsWith, end_keeps}
-use Rattle.cy_model.proofs.TraceInduction.{IsQuietIn, not_found_at, not_found_keeps, returned, went_on}
+use Rattle.cy_model.proofs.TraceInduction.{IsQuietIn, not_found_keeps, returned, went_on}
 
 -- what is known of the requests of a trace
 record Charted (T : Trace) : Type 0 where

@@ -1,19 +1,17 @@
 -- Where a connection closes for the end of its input, no head was left.
-use Rattle.std.proofs.Common.{◌≡◌, ◌⊎◌, inl, inr, ⊎_elim, ℕ, Bool, true, false, List, [], ◌∷◌, Option, Some, None, is_some, refl, sym, ap, ◌∙◌, nat_le, if◌then◌else◌}
+use Rattle.std.proofs.Common.{◌≡◌, ◌⊎◌, inl, inr, ⊎_elim, ℕ, Bool, true, false, List, ◌∷◌, Option, Some, None, is_some, sym, ap, ◌∙◌, nat_le, if◌then◌else◌}
 use Rattle.std.proofs.lemmas.Bool.{or_left}
 use Rattle.cy_event.specs.declared.limits.Limits.{Limits}
-use Rattle.cy_event.specs.declared.steps.Call.TheVariants as call
 use Rattle.cy_event.specs.declared.steps.CloseCause.{CloseCause}
 use Rattle.cy_event.specs.declared.steps.CloseCause.TheVariants.{BadBody, InputEnd, LastAnswer, Refused, SwallowLimit}
 use Rattle.cy_event.specs.declared.steps.Event.TheVariants as event
-use Rattle.cy_event.specs.declared.steps.Job.{Job}
 use Rattle.cy_map.specs.declared.rule.Rule.{Rule}
 use Rattle.cy_model.specs.Endings.{end_marks}
-use Rattle.cy_model.specs.Entries.{is_closed_to, trace_of}
-use Rattle.cy_model.specs.Folds.{cause_of, earlier, has_ended, is_open, running}
+use Rattle.cy_model.specs.Entries.{is_closed_to}
+use Rattle.cy_model.specs.Folds.{cause_of, earlier, has_ended, is_open}
 use Rattle.cy_model.specs.Inputs.{has_whole_body}
 use Rattle.cy_model.specs.Laws.{NoHeadIsLost}
-use Rattle.cy_model.specs.Marks.{aborted, called, caused, error_answer, over, started, Trace}
+use Rattle.cy_model.specs.Marks.{aborted, error_answer, Trace}
 use Rattle.cy_model.specs.Settling.{bad_place, body_cause, body_cause_by, front_of, is_awaited, swallow_place, with_marks}
 use Rattle.cy_model.proofs.Built.{owed_open}
 use Rattle.cy_model.proofs.Ends.{Ends, ends_kept, nothing_ends, runs_open}

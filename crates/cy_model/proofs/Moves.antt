@@ -1,5 +1,5 @@
 -- Which moves there are, one by one.
-use Rattle.std.proofs.Common.{◌≡◌, ℕ, ◌⊎◌, inl, inr, Bool, true, false, not, ◌&&◌, leb, List, [], ◌∷◌, ◌++◌, length, Option, Some, None, is_none, is_some, option_map, refl, sym, ap, ◌∙◌, subst, cond, if◌then◌else◌}
+use Rattle.std.proofs.Common.{◌≡◌, ℕ, ◌⊎◌, inl, inr, Bool, true, false, not, ◌&&◌, leb, List, [], ◌∷◌, ◌++◌, length, Option, Some, None, is_none, option_map, refl, sym, ◌∙◌, subst, cond, if◌then◌else◌}
 use Rattle.std.proofs.lemmas.Bool.{and_parts}
 use Rattle.cy_event.specs.declared.limits.Limits.{Limits}
 use Rattle.cy_event.specs.declared.steps.CloseCause.{CloseCause}

@@ -1,15 +1,11 @@
 -- What each kind of step does to the own entries of the connections.
-use Rattle.std.proofs.Common.{◌≡◌, ◌≢◌, ℕ, Bool, true, false, cond, List, [], ◌∷◌, ◌++◌, map, Option, Some, None, option_map, refl, sym, ap, ◌∙◌, subst, ◌==◌, if◌then◌else◌}
+use Rattle.std.proofs.Common.{◌≡◌, ◌≢◌, ℕ, Bool, true, false, cond, List, [], ◌∷◌, ◌++◌, map, Option, Some, None, option_map, refl, sym, ap, ◌∙◌, ◌==◌, if◌then◌else◌}
 use Rattle.std.proofs.lemmas.Bool.{eqb-true, eq-eqb}
-use Rattle.cy_event.specs.declared.limits.Limits.{Limits}
-use Rattle.cy_event.specs.declared.steps.Reply.{Reply}
 use Rattle.cy_event.specs.declared.steps.Reply.TheVariants as reply
-use Rattle.cy_event.specs.declared.steps.Step.{Step}
 use Rattle.cy_event.specs.declared.steps.Step.TheVariants as step
-use Rattle.cy_map.specs.declared.rule.Rule.{Rule}
-use Rattle.cy_model.specs.Connections.{History, Kind, add_own, admits, clock, admission, own, connections, counted, find_own, kind_of, own_reply, moment, moment_after, with_entry, with_step}
+use Rattle.cy_model.specs.Connections.{History, Kind, add_own, admits, connections, counted, find_own, own_reply, moment, moment_after, with_entry, with_step}
 use Rattle.cy_model.specs.Entries.{Entry, opening, tick, trace_of}
-use Rattle.cy_model.specs.Laws.{AddsOwn, AdmissionsOpenOne, ClockTicksForEach, FullOpensNone, OpensOne, OwnEntriesDecide, OwnStepsAddOwnEntries}
+use Rattle.cy_model.specs.Laws.{AdmissionsOpenOne, ClockTicksForEach, FullOpensNone, OwnEntriesDecide, OwnStepsAddOwnEntries}
 use Rattle.cy_model.specs.Replies.{Replied, plain}
 
 -- one entry more

@@ -1,21 +1,20 @@
 -- Each head that is taken up stands at its place in all the bytes that came, and its whole body before the next.
-use Rattle.std.proofs.Common.{◌≡◌, ◌≤◌, ◌⊎◌, ⊎_elim, ℕ, ◌+◌, Bool, true, false, not, ◌&&◌, List, [], ◌∷◌, ◌++◌, All, length, drop, Option, None, Some, option_map, refl, sym, ap, ◌∙◌, subst, arith, append_assoc, length-append, length-drop, if◌then◌else◌}
+use Rattle.std.proofs.Common.{◌≡◌, ◌≤◌, ℕ, ◌+◌, Bool, true, false, not, ◌&&◌, List, [], ◌∷◌, ◌++◌, All, length, drop, Option, None, Some, refl, sym, ap, ◌∙◌, subst, arith, append_assoc, length-append, length-drop, if◌then◌else◌}
 use Rattle.std.proofs.lemmas.List.{drop-append-le}
 use Rattle.std.proofs.lemmas.List.Elements.{All-nil, All-push, All-weaker}
 use Rattle.cy_event.specs.declared.limits.Limits.{Limits}
 use Rattle.cy_event.specs.declared.body.BodyMark.{BodyMark}
 use Rattle.cy_event.specs.declared.body.BodyStage.{BodyStage}
 use Rattle.cy_event.specs.declared.body.BodyStage.TheVariants as stage
-use Rattle.cy_event.specs.Bodies.{Body, body_at, body_of, body_start, content_in, scan_byte, scan_bytes, whole}
+use Rattle.cy_event.specs.Bodies.{body_at, body_of, body_start, content_in, scan_byte, scan_bytes, whole}
 use Rattle.cy_event.specs.Heads.{found, head_of}
-use Rattle.cy_event.specs.Framings.{Framed, framed}
 use Rattle.cy_event.proofs.Fronts.{front_length-bounds, head_of-found}
 use Rattle.cy_map.specs.declared.rule.Rule.{Rule}
 use Rattle.cy_head.proofs.HeadGrowth.{heads_stay}
-use Rattle.cy_model.specs.Entries.{Entry, trace_of}
+use Rattle.cy_model.specs.Entries.{trace_of}
 use Rattle.cy_model.specs.Folds.{bytes_of, is_open, last_taken, requests_of}
-use Rattle.cy_model.specs.Inputs.{behind_head, consumed, consumed_by, given_count, has_whole_body, head_end, is_end_told, is_whole, scan_by, scan_of, unread, used, used_by_given}
-use Rattle.cy_model.specs.Laws.{AreAtTheirPlaces, AreInRow, Follows, HasBody, HeadsAreAtTheirPlaces, IsAtPlace, last_of}
+use Rattle.cy_model.specs.Inputs.{behind_head, consumed, consumed_by, given_count, head_end, is_end_told, is_whole, scan_by, scan_of, unread, used, used_by_given}
+use Rattle.cy_model.specs.Laws.{AreInRow, Follows, HasBody, HeadsAreAtTheirPlaces, IsAtPlace, last_of}
 use Rattle.cy_model.specs.Marks.{Mark, came, began, TakenUp, Trace}
 use Rattle.cy_model.specs.Settling.{may_begin}
 use Rattle.cy_model.proofs.InputInduction.{KeptByInput, brings, kept_by_input}

@@ -1,5 +1,5 @@
 -- A step that is refused leaves no mark.
-use Rattle.std.proofs.Common.{◌≡◌, ℕ, Bool, true, false, cond, List, ◌∷◌, [], Option, Some, None, is_some, take, refl, if◌then◌else◌}
+use Rattle.std.proofs.Common.{◌≡◌, ℕ, Bool, true, false, List, ◌∷◌, [], Option, Some, None, is_some, take, refl, if◌then◌else◌}
 use Rattle.cy_event.specs.declared.limits.Limits.{Limits}
 use Rattle.cy_event.specs.declared.steps.Act.{Act}
 use Rattle.cy_event.specs.declared.steps.Act.TheVariants as act
@@ -8,7 +8,7 @@ use Rattle.cy_event.specs.declared.steps.Event.TheVariants as event
 use Rattle.cy_event.specs.declared.steps.Job.{Job}
 use Rattle.cy_event.specs.declared.steps.Reply.TheVariants as reply
 use Rattle.cy_map.specs.declared.rule.Rule.{Rule}
-use Rattle.cy_model.specs.Entries.{Entry, opening, tick, on_event, on_run, on_act, act_marks, act_reply, after, after_act, after_callback, after_turn, callback_reply, event_marks, event_reply, is_closed_act, is_closed_to, is_full, job_reply, open_act_marks, open_act_reply, owed_after, reply_to, turn_reply, write_reply, write_takes}
+use Rattle.cy_model.specs.Entries.{opening, tick, on_event, on_run, on_act, act_marks, act_reply, after, after_act, after_callback, after_turn, callback_reply, event_marks, event_reply, is_closed_act, is_closed_to, is_full, job_reply, open_act_marks, open_act_reply, owed_after, reply_to, turn_reply, write_takes}
 use Rattle.cy_model.specs.Folds.{running}
 use Rattle.cy_model.specs.Outputs.{answer_of, is_gone}
 use Rattle.cy_model.specs.Laws.{RefusalsLeaveNoMark}

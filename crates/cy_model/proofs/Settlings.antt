@@ -1,6 +1,5 @@
 -- Settling comes to an end: each move leaves less to do, and the bound of the moves is never reached.
-use Rattle.std.proofs.Common.{◌≡◌, ℕ, ◌+◌, ◌-◌, ◌*◌, ◌<◌, ◌≤◌, ◌⊎◌, inl, inr, ⊎_elim, Bool, true, false, not, ◌&&◌, leb, List, [], ◌∷◌, ◌++◌, length, drop, Option, Some, None, is_none, is_some, option_map, refl, sym, ap, ◌∙◌, subst, arith, length-drop, cond, if◌then◌else◌}
-use Rattle.std.proofs.lemmas.Bool.{and_parts}
+use Rattle.std.proofs.Common.{◌≡◌, ℕ, ◌+◌, ◌-◌, ◌*◌, ◌<◌, ◌≤◌, ◌⊎◌, inl, inr, ⊎_elim, Bool, true, false, not, ◌&&◌, List, [], ◌∷◌, ◌++◌, length, Option, Some, None, refl, sym, ap, ◌∙◌, subst, arith, length-drop, if◌then◌else◌}
 use Rattle.cy_event.specs.declared.limits.Limits.{Limits}
 use Rattle.cy_event.specs.declared.steps.Call.TheVariants as call
 use Rattle.cy_event.specs.declared.steps.CloseCause.{CloseCause}
@@ -8,17 +7,17 @@ use Rattle.cy_event.specs.declared.steps.CloseCause.TheVariants.{InputEnd, LastA
 use Rattle.cy_event.specs.declared.steps.State.{State}
 use Rattle.cy_event.specs.declared.steps.State.TheVariants as state
 use Rattle.cy_event.specs.Heads.{Front, awaited, found, malformed}
-use Rattle.cy_event.specs.Table.{next_state, row}
+use Rattle.cy_event.specs.Table.{next_state}
 use Rattle.cy_map.specs.declared.rule.Rule.{Rule}
 use Rattle.cy_event.proofs.Fronts.{front_length-bounds, head_of-found}
 use Rattle.cy_model.proofs.Moves.{IsCauseMove, IsEndMove, IsReturnMove, end_keeps, quiet_cases, may_begin-parts, when_true}
 use Rattle.cy_model.proofs.Repeats.{Falls, IsFirstOf, until_none-none, until_none-rests, until_none-bound, until_none-step, until_none-first, until_none-size, until_none-second, until_none-keeps}
-use Rattle.cy_model.specs.Endings.{end_marks, error_marks, failure_marks, fault_marks, fault_marks_by, hears_fault, server_error}
+use Rattle.cy_model.specs.Endings.{end_marks, error_marks, failure_marks, fault_marks_by, hears_fault, server_error}
 use Rattle.cy_model.specs.Folds.{begun_count, bytes_of, cause_of, earlier, has_ended, is_open, last_taken, state_of}
-use Rattle.cy_model.specs.Inputs.{consumed, consumed_by, head_end, has_whole_body, unread, used}
-use Rattle.cy_model.specs.Marks.{Mark, began, called, refused, error_answer, aborted, over, caused, TakenUp, Trace}
-use Rattle.cy_model.specs.Outputs.{is_committed, unsent}
-use Rattle.cy_model.specs.Settling.{with_marks, Move, first_move, after_move, begin_bound, cause_and_fault, may_begin, front_of, Due, nothing, refusal, not_found, request, due_by_front, due_by_verdict, due_of, due_move, head_move, is_awaited, end_move, last_answer_marks, next_move, quiet_moves, quiet_step, body_move, input_move, return_move, return_marks_in, settle_step, enough_moves, rested, taken_up, settled, rested_and_taken_up}
+use Rattle.cy_model.specs.Inputs.{consumed, consumed_by, head_end, unread, used}
+use Rattle.cy_model.specs.Marks.{Mark, began, called, refused, error_answer, over, caused, TakenUp, Trace}
+use Rattle.cy_model.specs.Outputs.{is_committed}
+use Rattle.cy_model.specs.Settling.{with_marks, Move, first_move, after_move, cause_and_fault, may_begin, front_of, Due, nothing, refusal, not_found, request, due_by_front, due_by_verdict, due_of, due_move, head_move, is_awaited, end_move, last_answer_marks, next_move, quiet_moves, quiet_step, body_move, input_move, return_move, return_marks_in, settle_step, enough_moves, rested, taken_up, settled, rested_and_taken_up}
 use Rattle.cy_model.specs.Verdicts.{turned_away, unserved, served, verdict_of, not_found_status}
 
 -- ---- what is left to do

@@ -1,5 +1,5 @@
 -- What the marks of every entry and every move keep holds of the trace of any entries.
-use Rattle.std.proofs.Common.{◌≡◌, ◌⊎◌, inl, inr, ℕ, ◌+◌, Bool, true, false, ◌||◌, ◌&&◌, ◌≤◌, ◌-◌, min, length, length-take, arith, cond, List, [], ◌∷◌, take, Option, Some, None, is_some, is_none, refl, sym, ap, ◌∙◌, subst, if◌then◌else◌, ◌==◌}
+use Rattle.std.proofs.Common.{◌≡◌, ℕ, ◌+◌, Bool, true, false, ◌≤◌, ◌-◌, min, length, length-take, arith, cond, List, [], ◌∷◌, take, Option, Some, None, is_some, refl, sym, subst, if◌then◌else◌, ◌==◌}
 use Rattle.cy_event.specs.declared.limits.Limits.{Limits}
 use Rattle.cy_event.specs.declared.steps.Act.{Act}
 use Rattle.cy_event.specs.declared.steps.Act.TheVariants as act
@@ -18,14 +18,14 @@ use Rattle.cy_event.specs.Table.{is_end, row}
 use Rattle.cy_map.specs.declared.rule.Rule.{Rule}
 use Rattle.cy_model.specs.Endings.{end_marks, error_marks, failure_marks, fault_marks_by, hears_fault, server_error}
 use Rattle.cy_model.specs.Entries.{Entry, opening, tick, on_event, on_run, on_act, after, after_act, after_callback, act_marks, end_marks_where, ended_count, event_marks, is_closed_act, is_closed_to, is_full, job_marks, open_act_marks, owed_after, return_marks, run_marks, sent_of, trace_of, write_takes}
-use Rattle.cy_model.specs.Folds.{begun_count, cause_of, is_open, running, state_of}
+use Rattle.cy_model.specs.Folds.{begun_count, is_open, running, state_of}
 use Rattle.cy_model.specs.Inputs.{consumed, room}
 use Rattle.cy_model.specs.Jobs.{next_job}
 use Rattle.cy_model.specs.Marks.{Mark, opened, ended, came, sent, back, began, refused, called, over, started, put, error_answer, aborted, caused, TakenUp, Trace}
 use Rattle.cy_model.specs.Outputs.{answer_of, is_committed, is_gone}
 use Rattle.cy_model.specs.Settling.{Due, cause_and_fault, front_of, is_quiet, last_answer_marks, return_marks_in, settled, with_marks, may_begin, nothing, refusal, not_found, request, due_move, due_of, head_move}
 use Rattle.cy_model.specs.Verdicts.{not_found_status}
-use Rattle.cy_model.proofs.Moves.{EndsWith, IsCauseMove, IsEndMove, IsReturnMove, end_keeps}
+use Rattle.cy_model.proofs.Moves.{IsCauseMove, IsEndMove}
 use Rattle.cy_model.proofs.Settlings.{DueTakes, KeepsQuietMoves, due_takes, head_move-parts, settled-keeps-by}
 
 -- the marks of a request that no rule serves

@@ -2,7 +2,6 @@
 use Rattle.std.proofs.Common.{◌≡◌, ℕ, ◌+◌, Bool, true, false, not, ◌&&◌, ◌==◌, cond, List, [], ◌∷◌, length, Option, Some, None, is_none, is_some, refl, ap, ◌∙◌, subst, sym, arith, if◌then◌else◌}
 use Rattle.std.proofs.lemmas.Bool.{and_left, and_right}
 use Rattle.cy_event.specs.declared.limits.Limits.{Limits}
-use Rattle.cy_event.specs.declared.steps.Call.TheVariants as call
 use Rattle.cy_event.specs.declared.steps.Job.{Job}
 use Rattle.cy_event.specs.declared.steps.Job.TheVariants as job
 use Rattle.cy_event.specs.declared.steps.Reply.TheVariants as reply
@@ -16,18 +15,18 @@ use Rattle.cy_model.specs.Folds.{begun_count, cause_of, is_open, is_served, part
 use Rattle.cy_model.specs.Inputs.{consumed}
 use Rattle.cy_model.specs.Jobs.{asking, job_owed, next_job, service_in}
 use Rattle.cy_model.specs.Laws.{TurnBegins, TurnsServe}
-use Rattle.cy_model.specs.Marks.{TakenUp, Trace, aborted, began, called, caused, error_answer, over, started}
+use Rattle.cy_model.specs.Marks.{TakenUp, Trace, aborted, began, caused, error_answer, over}
 use Rattle.cy_model.specs.Outputs.{is_gone, unsent}
 use Rattle.cy_model.specs.Replies.{plain}
 use Rattle.cy_model.specs.Settling.{after_move, due_by_front, due_by_verdict, due_of, front_of, request, settled, taken_up_by, with_marks}
-use Rattle.cy_model.specs.Verdicts.{turned_away, unserved, served, verdict_of, not_found_status}
+use Rattle.cy_model.specs.Verdicts.{turned_away, unserved, served, verdict_of}
 use Rattle.cy_model.proofs.Built.{IsPlain, asked_service, service_owed}
 use Rattle.cy_model.proofs.BuiltInduction.{IsKeptWhereBuilt, built_trace_keeps}
-use Rattle.cy_model.proofs.BuiltKept.{IsBuilt, plainly}
+use Rattle.cy_model.proofs.BuiltKept.{plainly}
 use Rattle.cy_model.proofs.Gone.{open_still}
 use Rattle.cy_model.proofs.Moves.{EndsWith, end_keeps}
 use Rattle.cy_model.proofs.Settlings.{settled-done}
-use Rattle.cy_model.proofs.TraceInduction.{job_begins, not_found_keeps, return_keeps, returned, went_on}
+use Rattle.cy_model.proofs.TraceInduction.{not_found_keeps, return_keeps, returned, went_on}
 
 -- the rule that serves a head names this component
 record IsMapped (rules : List Rule) (head : Head) (part : ℕ) : Type 0 where

@@ -1,14 +1,15 @@
 -- Whatever the entries of a connection are, no move is left to be made in its trace.
-use Rattle.std.proofs.Common.{◌≡◌, ◌≤◌, ℕ, Bool, true, false, not, ◌&&◌, ◌==◌, cond, leb, List, [], ◌∷◌, length, Option, Some, None, is_none, is_some, option_map, refl, ap, ◌∙◌, if◌then◌else◌}
+use Rattle.std.proofs.Common.{◌≡◌, ◌≤◌, ℕ, Bool, true, false, not, ◌&&◌, ◌==◌, cond, List, [], ◌∷◌, Option, Some, None, is_none, is_some, option_map, refl, ap, ◌∙◌, if◌then◌else◌}
 use Rattle.cy_event.specs.declared.limits.Limits.{Limits}
 use Rattle.cy_event.specs.declared.steps.Call.TheVariants as call
 use Rattle.cy_event.specs.declared.steps.CloseCause.TheVariants.{InputEnd}
 use Rattle.cy_event.specs.declared.steps.Job.{Job}
+use Rattle.cy_event.specs.declared.steps.Job.TheVariants as job
 use Rattle.cy_event.specs.Heads.{Front, awaited, front_length}
 use Rattle.cy_map.specs.declared.rule.Rule.{Rule}
 use Rattle.cy_head.proofs.HeadFronts.{heads_are_awaited}
 use Rattle.cy_model.specs.Entries.{Entry, opening, tick, on_event, on_run, on_act, act_marks, after, after_act, ended_count, event_marks, is_closed_to, job_marks, owed_after, trace_of}
-use Rattle.cy_model.specs.Folds.{cause_of, context_of, has_ended, is_open, parked_callback, running, state_of}
+use Rattle.cy_model.specs.Folds.{begun_by, callback_of, cause_of, context_of, has_ended, is_open, parked_callback, running, state_of}
 use Rattle.cy_model.specs.Inputs.{has_whole_body}
 use Rattle.cy_model.specs.Jobs.{next_job}
 use Rattle.cy_model.specs.Laws.{NoEndWaits, NoHeadWaits}
@@ -43,6 +44,21 @@ neither : {X : Type 0} (v : Bool) (x y : X) → (if v then Some x else None) ≡
 neither true x y e = cc
 neither false x y e = refl
 
+-- a callback runs as soon as it has begun
+begun_runs : (j : Job) (before : Option Job) → is_none (begun_by j before) ≡ false
+begun_runs (job.Service part) before = refl
+begun_runs (job.Again part) before = refl
+begun_runs job.Resume None = refl
+begun_runs job.Resume (Some j) = refl
+begun_runs job.Readable before = refl
+begun_runs job.AllRead before = refl
+begun_runs job.Writable before = refl
+begun_runs job.ReadError before = refl
+begun_runs job.WriteError before = refl
+begun_runs (job.OnTimeout listener tag) before = refl
+begun_runs (job.OnError listener tag) before = refl
+begun_runs (job.OnComplete listener tag) before = refl
+
 module _ (limits : Limits) (rules : List Rule) where
   -- no move applies
   abbrev Rests : Trace → Type 0
@@ -54,9 +70,9 @@ module _ (limits : Limits) (rules : List Rule) where
       (ap (λ (f : Front). due_move (due_by_front limits rules 0 1 f)) (nothing_is_awaited limits long))
 
   -- while a callback of an open request runs, only its body or the end of the input may be a cause
-  begun_rests : (T R : Trace) (j : Job) → is_open R ≡ true → running R ≡ Some j → is_none (cause_of R) ≡ is_none (cause_of T)
+  begun_rests : (T R : Trace) → is_open R ≡ true → is_none (running R) ≡ false → is_none (cause_of R) ≡ is_none (cause_of T)
       → body_cause limits R ≡ body_cause limits T → has_ended R ≡ has_ended T → has_whole_body R ≡ has_whole_body T → Rests T → Rests R
-  begun_rests T R j open_now runs cause body ended whole rests =
+  begun_rests T R open_now runs cause body ended whole rests =
       let may = open_may_not_begin R open_now in
       let first = head_none (body_move limits T) (input_move T ∷ return_move T ∷ end_move limits T ∷ head_move limits rules T ∷ []) rests in
       let others = rest_none (body_move limits T) (input_move T ∷ return_move T ∷ end_move limits T ∷ head_move limits rules T ∷ []) rests in
@@ -69,7 +85,7 @@ module _ (limits : Limits) (rules : List Rule) where
       (no_return (is_open R) (running R) (is_none (parked_callback R) && is_empty_jobs (context_of R).owed) (return_marks_in (state_of R) R) runs)
       (no_end limits R may) (no_head limits rules R may)
     where
-      no_return : (v : Bool) (o : Option Job) (w : Bool) (m : Move) → o ≡ Some j → (if v && (is_none o && w) then m else None) ≡ None
+      no_return : (v : Bool) (o : Option Job) (w : Bool) (m : Move) → is_none o ≡ false → (if v && (is_none o && w) then m else None) ≡ None
       no_return true None w m e = cc
       no_return true (Some i) w m e = refl
       no_return false o w m e = refl
@@ -80,8 +96,8 @@ module _ (limits : Limits) (rules : List Rule) where
   job_rests t T (Some j) e rests =
       let open_now = owed_open T j e in
       job_begins Rests t j T
-      (λ q. begun_rests T ((t, started j) ∷ T) j open_now refl refl refl refl refl rests)
-      (λ q. begun_rests T ((t, called call.Run None) ∷ (t, started j) ∷ T) j open_now refl refl refl refl refl rests)
+      (λ q. begun_rests T ((t, started j) ∷ T) open_now (begun_runs j (callback_of T)) refl refl refl refl rests)
+      (λ q. begun_rests T ((t, called call.Run None) ∷ (t, started j) ∷ T) open_now (begun_runs j (callback_of T)) refl refl refl refl rests)
 
   turn_rests : (t : ℕ) (T : Trace) → Rests (with_marks t (job_marks (owed_after T (settled limits rules t T))) (settled limits rules t T))
   turn_rests t T =

@@ -1,11 +1,9 @@
 -- How a request ends, and what a fault of its connection does to it.
-use Rattle.std.specs.Prelude.{ℕ, Bool, true, false, not, ◌&&◌, ◌||◌, List, [], ◌∷◌, ◌++◌, Option, Some, None, is_some, if◌then◌else◌}
-use Rattle.cy_event.specs.declared.steps.Call.{Call}
+use Rattle.std.specs.Prelude.{ℕ, Bool, true, false, ◌&&◌, List, [], ◌∷◌, ◌++◌, Option, Some, None, is_some, if◌then◌else◌}
 use Rattle.cy_event.specs.declared.steps.Call.TheVariants as call
 use Rattle.cy_event.specs.declared.steps.CloseCause.{CloseCause}
 use Rattle.cy_event.specs.declared.steps.CloseCause.TheVariants as cause
-use Rattle.cy_event.specs.Answering.{Answering, Sending, after_finish, has_closed, is_short, mode_in}
-use Rattle.cy_event.specs.Answers.{Answer}
+use Rattle.cy_event.specs.Answering.{Sending, has_closed, is_short, mode_in}
 use Rattle.cy_event.specs.Framings.{bad_request}
 use Rattle.cy_event.specs.Table.{row}
 use Rattle.cy_model.specs.Marks.{Mark, called, error_answer, aborted, over, caused, Trace}

@@ -1,8 +1,7 @@
 -- What the marks say of a connection and of its last request. Each word names the marks at which it changes; every other
 -- mark leaves it.
-use Rattle.std.specs.Prelude.{ℕ, ◌+◌, Bool, true, false, List, [], ◌∷◌, ◌++◌, length, Option, Some, None, is_none, is_some, if◌then◌else◌, ◌&&◌}
+use Rattle.std.specs.Prelude.{ℕ, ◌+◌, Bool, true, false, List, [], ◌∷◌, ◌++◌, Option, Some, None, if◌then◌else◌}
 use Rattle.cy_event.specs.declared.steps.Call.{Call}
-use Rattle.cy_event.specs.declared.steps.Call.TheVariants as call
 use Rattle.cy_event.specs.declared.steps.CloseCause.{CloseCause}
 use Rattle.cy_event.specs.declared.steps.Job.{Job}
 use Rattle.cy_event.specs.declared.steps.Job.TheVariants as job
@@ -11,7 +10,7 @@ use Rattle.cy_event.specs.declared.steps.State.TheVariants as state
 use Rattle.cy_event.specs.Callbacks.{Context, after_row, is_owed_to_listener, no_context, popped, with_listener, with_timeout}
 use Rattle.cy_event.specs.ReadyListeners.{ReadyListeners, after_begun, input_not_ready, no_listeners, output_not_ready, with_read_listener, with_write_listener}
 use Rattle.cy_event.specs.Table.{next_state, row}
-use Rattle.cy_model.specs.Marks.{Mark, Side, input_side, output_side, opened, ended, came, sent, began, refused, called, started, parked, back, listened, timeout_set, read_listener_set, write_listener_set, not_ready, over, caused, broken, TakenUp, Trace}
+use Rattle.cy_model.specs.Marks.{Side, input_side, output_side, opened, ended, came, began, refused, called, started, parked, back, listened, timeout_set, read_listener_set, write_listener_set, not_ready, over, caused, broken, TakenUp, Trace}
 
 -- ---- the connection
 
@@ -120,12 +119,27 @@ part_of ((t, refused status to_head) ∷ T) = 0
 part_of ((t, called k (Some part)) ∷ T) = part
 part_of ((t, m) ∷ T) = part_of T
 
--- the callback that runs; one that waits and goes on runs as `Resume`
+-- `Resume` lets the callback that waits go on; each other one takes its place
+abbrev pub begun_by : Job → Option Job → Option Job
+begun_by job.Resume (Some before) = Some before
+begun_by j before = Some j
+
+-- the callback that was begun last and isn't over, whether it runs or waits
+abbrev pub callback_of : Trace → Option Job
+callback_of [] = None
+callback_of ((t, began r) ∷ T) = None
+callback_of ((t, refused status to_head) ∷ T) = None
+callback_of ((t, started j) ∷ T) = begun_by j (callback_of T)
+callback_of ((t, back) ∷ T) = None
+callback_of ((t, over) ∷ T) = None
+callback_of ((t, m) ∷ T) = callback_of T
+
+-- the callback that runs
 abbrev pub running : Trace → Option Job
 running [] = None
 running ((t, began r) ∷ T) = None
 running ((t, refused status to_head) ∷ T) = None
-running ((t, started j) ∷ T) = Some j
+running ((t, started j) ∷ T) = begun_by j (callback_of T)
 running ((t, parked s) ∷ T) = None
 running ((t, back) ∷ T) = None
 running ((t, over) ∷ T) = None

@@ -1,8 +1,8 @@
 -- The output of a connection: the answer to the last request as it is made, and all that was written.
-use Rattle.std.specs.Prelude.{ℕ, ◌+◌, ◌-◌, Bool, true, false, not, ◌&&◌, ◌||◌, ◌==◌, List, [], ◌∷◌, ◌++◌, length, take, drop, Option, Some, None, is_some, if◌then◌else◌}
+use Rattle.std.specs.Prelude.{ℕ, ◌+◌, Bool, true, false, not, ◌&&◌, ◌||◌, ◌==◌, List, [], ◌∷◌, ◌++◌, length, take, drop, Option, Some, None, is_some}
 use Rattle.cy_event.specs.declared.steps.CloseCause.{CloseCause}
 use Rattle.cy_event.specs.AnswerModes.{Asked}
-use Rattle.cy_event.specs.Answering.{Answering, Sending, aborted as aborted_sending, after_finish, beginning, closing, cut, emptied, idle, is_committed as is_committed_sending, output_limit, push_bytes, with_error, with_length}
+use Rattle.cy_event.specs.Answering.{Answering, Sending, aborted as aborted_sending, after_finish, beginning, closing, cut, emptied, idle, is_committed as is_committed_sending, push_bytes, with_error, with_length}
 use Rattle.cy_event.specs.Answers.{Answer, after_put, continue_text, error_answer as error_answer_of, fresh_answer, refusal_text}
 use Rattle.cy_event.specs.Heads.{Field}
 use Rattle.cy_model.specs.Marks.{began, refused, sent, status_set, field_added, length_set, answer_reset, put, flushed, error_answer, aborted, over, broken, TakenUp, Trace}

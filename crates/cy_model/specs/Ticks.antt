@@ -1,5 +1,5 @@
 -- What the clock does to a connection: the first of four rules that applies.
-use Rattle.std.specs.Prelude.{ℕ, ◌+◌, Bool, true, false, not, ◌&&◌, nat_le, List, [], ◌∷◌, ◌++◌, Option, Some, None, is_none, is_some, if◌then◌else◌}
+use Rattle.std.specs.Prelude.{ℕ, ◌+◌, Bool, true, false, not, ◌&&◌, nat_le, [], ◌∷◌, Option, Some, None, is_none, is_some, if◌then◌else◌}
 use Rattle.cy_event.specs.declared.limits.Limits.{Limits}
 use Rattle.cy_event.specs.declared.steps.Call.TheVariants as call
 use Rattle.cy_event.specs.declared.steps.CloseCause.TheVariants as cause
@@ -8,7 +8,7 @@ use Rattle.cy_event.specs.declared.steps.State.TheVariants as state
 use Rattle.cy_model.specs.Endings.{fault_marks}
 use Rattle.cy_model.specs.Folds.{Parked, cause_of, closing_since, context_of, idle_since, is_open, parked_callback, state_of}
 use Rattle.cy_model.specs.Jobs.{asking, is_wait_over}
-use Rattle.cy_model.specs.Marks.{Mark, called, caused, broken, Trace}
+use Rattle.cy_model.specs.Marks.{called, caused, broken, Trace}
 use Rattle.cy_model.specs.Outputs.{is_gone}
 use Rattle.cy_model.specs.Settling.{Move, first_move}
 
