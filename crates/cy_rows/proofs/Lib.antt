@@ -1,0 +1,12 @@
+pub mod MarksChange
+pub mod Traces00Rows
+pub mod Traces01Rows
+pub mod Traces02Rows
+pub mod Traces03Rows
+pub mod Traces04Rows
+pub mod Traces05Rows
+pub mod Traces06Rows
+pub mod Traces07Rows
+pub mod Traces08Rows
+pub mod Traces09Rows
+pub mod Traces10Rows

@@ -1,0 +1,1089 @@
+-- Traces that another program made, with what it tells of them, computed from the definitions. Made by `cases/rows.py`.
+use Rattle.std.proofs.Common.{◌≡◌, ℕ, true, false, List, [], ◌∷◌, Some, None, codes, refl}
+use Rattle.std.specs.Prelude.{pos, negsuc}
+use Rattle.std.specs.Fmt.{digits}
+use Rattle.std.specs.Str.{is_utf8, chars}
+use lib.Utf8.{encode}
+use Rattle.cy_event.specs.declared.framing.Framing.TheVariants as framing
+use Rattle.cy_event.specs.declared.limits.Limits.{Limits}
+use Rattle.cy_event.specs.declared.steps.Call.TheVariants as call
+use Rattle.cy_event.specs.declared.steps.CloseCause.TheVariants as cause
+use Rattle.cy_event.specs.declared.steps.Job.TheVariants as job
+use Rattle.cy_event.specs.declared.steps.State.TheVariants as state
+use Rattle.cy_event.specs.Answers.{head_text}
+use Rattle.cy_event.specs.Dates.{date_at, count_off}
+use Rattle.cy_event.specs.Framings.{framed}
+use Rattle.cy_event.specs.Heads.{is_name_byte, trimmed, front_length, whole_head, host_fits, head_of}
+use Rattle.cy_event.specs.Targets.{target_of}
+use Rattle.cy_map.specs.declared.rule.Rule.{Rule}
+use Rattle.cy_model.specs.Endings.{end_marks}
+use Rattle.cy_model.specs.Jobs.{next_job}
+use Rattle.cy_model.specs.Marks.{Trace, input_side, output_side, opened, ended, came, sent, began, refused, called, started, parked, back, given, end_given, listened, timeout_set, read_listener_set, write_listener_set, not_ready, status_set, field_added, length_set, answer_reset, put, flushed, nothing_to_flush, error_answer, aborted, over, caused, broken}
+use Rattle.cy_model.specs.Settling.{settled}
+use Rattle.cy_model.specs.Ticks.{tick_move}
+use Rattle.cy_model.specs.Verdicts.{verdict_of}
+use Rattle.cy_rows.specs.Told.{answer_told, connection_told, open_told, request_told}
+
+abbrev trace_000_limits : Limits
+trace_000_limits = record { max_connections = 256; max_head = 8192; max_fields = 100; max_keep_alive = pos 100; connection_timeout = 20000; async_timeout = 30000; max_swallow = 2097152; max_trailer = 8192; parts = 3 }
+
+abbrev trace_000_rules : List Rule
+trace_000_rules = record { pattern = (codes "/"); part = 0; can_async = true } ∷ record { pattern = (codes "/a"); part = 1; can_async = true } ∷ record { pattern = (codes "/x/*"); part = 2; can_async = false } ∷ []
+
+abbrev trace_000_01 : Trace
+trace_000_01 = (0, opened) ∷ []
+
+abbrev trace_000_03 : Trace
+trace_000_03 = (0, began (record { place = 0; size = 27; head = record { method = (codes "GET"); target = (codes "/"); minor = 1; fields = record { name = (codes "Host"); value = (codes "a") } ∷ [] }; framing = framing.None; max_trailer = 8192; async_timeout = 30000; part = 0; can_async = true; keep = true; go_on = false })) ∷ (0, came (codes "GET / HTTP/1.1\r\nHost: a\r\n\r\n")) ∷ trace_000_01
+
+abbrev trace_000_04 : Trace
+trace_000_04 = (0, ended) ∷ trace_000_03
+
+abbrev trace_000_05 : Trace
+trace_000_05 = (0, called call.Run None) ∷ (0, started (job.Service 0)) ∷ trace_000_04
+
+abbrev trace_000_06 : Trace
+trace_000_06 = (0, end_given) ∷ trace_000_05
+
+abbrev trace_000_07 : Trace
+trace_000_07 = (0, parked input_side) ∷ trace_000_06
+
+abbrev trace_000_09 : Trace
+trace_000_09 = (10, started job.Resume) ∷ trace_000_07
+
+abbrev trace_000_10 : Trace
+trace_000_10 = (10, field_added (record { name = (codes "Set-Cookie"); value = (codes "xxxxxxxxxxxxxxxxxxxxxxxxxxxxxxxxxxxxxxxxxxxxxxxxxxxxxxxxxxxx") })) ∷ trace_000_09
+
+abbrev trace_000_11 : Trace
+trace_000_11 = (10, called call.Start None) ∷ trace_000_10
+
+abbrev trace_000_12 : Trace
+trace_000_12 = (10, put (codes "bbbbbbbbbbbbbbbbbbbbbbbbbbbbbbbbbbbbbbbbbbbbbbbbbbbbbbbbbbbbbbbbbbbbbbbbbbbbbbbbbbbbbbbbbbbbbbbbbbbb")) ∷ trace_000_11
+
+abbrev trace_000_13 : Trace
+trace_000_13 = (10, flushed) ∷ trace_000_12
+
+abbrev trace_000_15 : Trace
+trace_000_15 = (10, read_listener_set) ∷ trace_000_13
+
+abbrev trace_000_18 : Trace
+trace_000_18 = (10, write_listener_set) ∷ trace_000_15
+
+abbrev trace_000_19 : Trace
+trace_000_19 = (10, called call.Return None) ∷ (10, back) ∷ trace_000_18
+
+trace_000-connection : connection_told trace_000_19
+    ≡ record {
+      came = 27;
+      consumed = 27;
+      room = 16384;
+      has_ended = true;
+      cause = None;
+      is_broken = false;
+      is_gone = false;
+      is_open = true;
+      begun = 1;
+      output = (codes "HTTP/1.1 200 \r\nSet-Cookie: xxxxxxxxxxxxxxxxxxxxxxxxxxxxxxxxxxxxxxxxxxxxxxxxxxxxxxxxxxxx\r\nTransfer-Encoding: chunked\r\nDate: Thu, 01 Jan 1970 00:00:00 GMT\r\n\r\n64\r\nbbbbbbbbbbbbbbbbbbbbbbbbbbbbbbbbbbbbbbbbbbbbbbbbbbbbbbbbbbbbbbbbbbbbbbbbbbbbbbbbbbbbbbbbbbbbbbbbbbbb\r\n");
+      took = 0;
+      unsent = 262;
+      idle_since = 0;
+      next_job = (Some job.AllRead);
+      charts = (call.Run ∷ call.Start ∷ call.Return ∷ []) ∷ [];
+    }
+unfolding head_text digits date_at count_off is_name_byte
+trace_000-connection = refl
+
+trace_000-request : request_told trace_000_19
+    ≡ record {
+      part = 0;
+      state = state.Started;
+      running = None;
+      parked = None;
+      given = 0;
+      is_end_told = true;
+      waiting = 0;
+      used = 0;
+      swallowed = 0;
+      has_whole_body = true;
+      has_bad_body = false;
+      listeners = [];
+      owed = [];
+      deadline = (Some 30010);
+      ready = record { read_set = true; read_armed = true; all_read_told = false; write_set = true; write_armed = true };
+    }
+unfolding is_name_byte
+trace_000-request = refl
+
+trace_000-answer : answer_told trace_000_19
+    ≡ record {
+      status = 200;
+      fields = record { name = (codes "Set-Cookie"); value = (codes "xxxxxxxxxxxxxxxxxxxxxxxxxxxxxxxxxxxxxxxxxxxxxxxxxxxxxxxxxxxx") } ∷ [];
+      set_length = None;
+      content = 100;
+      is_aborted = false;
+    }
+unfolding digits
+trace_000-answer = refl
+
+trace_000-open : open_told trace_000_19
+    ≡ record {
+      is_committed = true;
+      takes_one = true;
+      has_to_cut = false;
+    }
+unfolding head_text digits date_at count_off is_name_byte
+trace_000-open = refl
+
+trace_000-01-settled : settled trace_000_limits trace_000_rules 0 ((0, opened) ∷ [])
+    ≡ trace_000_01
+unfolding settled head_text digits date_at count_off is_name_byte trimmed front_length whole_head host_fits head_of verdict_of target_of framed is_utf8 chars encode
+trace_000-01-settled = refl
+
+trace_000-03-settled : settled trace_000_limits trace_000_rules 0 ((0, came (codes "GET / HTTP/1.1\r\nHost: a\r\n\r\n")) ∷ trace_000_01)
+    ≡ trace_000_03
+unfolding settled head_text digits date_at count_off is_name_byte trimmed front_length whole_head host_fits head_of verdict_of target_of framed is_utf8 chars encode
+trace_000-03-settled = refl
+
+trace_000-04-settled : settled trace_000_limits trace_000_rules 0 ((0, ended) ∷ trace_000_03)
+    ≡ trace_000_04
+unfolding settled head_text digits date_at count_off is_name_byte trimmed front_length whole_head host_fits head_of verdict_of target_of framed is_utf8 chars encode
+trace_000-04-settled = refl
+
+trace_000-05-next : next_job (trace_000_04)
+    ≡ (Some (job.Service 0))
+unfolding head_text digits date_at count_off is_name_byte
+trace_000-05-next = refl
+
+trace_000-06-settled : settled trace_000_limits trace_000_rules 0 ((0, end_given) ∷ trace_000_05)
+    ≡ trace_000_06
+unfolding settled head_text digits date_at count_off is_name_byte trimmed front_length whole_head host_fits head_of verdict_of target_of framed is_utf8 chars encode
+trace_000-06-settled = refl
+
+trace_000-07-settled : settled trace_000_limits trace_000_rules 0 ((0, parked input_side) ∷ trace_000_06)
+    ≡ trace_000_07
+unfolding settled head_text digits date_at count_off is_name_byte trimmed front_length whole_head host_fits head_of verdict_of target_of framed is_utf8 chars encode
+trace_000-07-settled = refl
+
+trace_000-08-tick : tick_move trace_000_limits 10 trace_000_07
+    ≡ None
+unfolding head_text digits date_at count_off is_name_byte
+trace_000-08-tick = refl
+
+trace_000-09-next : next_job (trace_000_07)
+    ≡ (Some job.Resume)
+unfolding head_text digits date_at count_off is_name_byte
+trace_000-09-next = refl
+
+trace_000-10-settled : settled trace_000_limits trace_000_rules 10 ((10, field_added (record { name = (codes "Set-Cookie"); value = (codes "xxxxxxxxxxxxxxxxxxxxxxxxxxxxxxxxxxxxxxxxxxxxxxxxxxxxxxxxxxxx") })) ∷ trace_000_09)
+    ≡ trace_000_10
+unfolding settled head_text digits date_at count_off is_name_byte trimmed front_length whole_head host_fits head_of verdict_of target_of framed is_utf8 chars encode
+trace_000-10-settled = refl
+
+trace_000-11-settled : settled trace_000_limits trace_000_rules 10 ((10, called call.Start None) ∷ trace_000_10)
+    ≡ trace_000_11
+unfolding settled head_text digits date_at count_off is_name_byte trimmed front_length whole_head host_fits head_of verdict_of target_of framed is_utf8 chars encode
+trace_000-11-settled = refl
+
+trace_000-12-settled : settled trace_000_limits trace_000_rules 10 ((10, put (codes "bbbbbbbbbbbbbbbbbbbbbbbbbbbbbbbbbbbbbbbbbbbbbbbbbbbbbbbbbbbbbbbbbbbbbbbbbbbbbbbbbbbbbbbbbbbbbbbbbbbb")) ∷ trace_000_11)
+    ≡ trace_000_12
+unfolding settled head_text digits date_at count_off is_name_byte trimmed front_length whole_head host_fits head_of verdict_of target_of framed is_utf8 chars encode
+trace_000-12-settled = refl
+
+trace_000-13-settled : settled trace_000_limits trace_000_rules 10 ((10, flushed) ∷ trace_000_12)
+    ≡ trace_000_13
+unfolding settled head_text digits date_at count_off is_name_byte trimmed front_length whole_head host_fits head_of verdict_of target_of framed is_utf8 chars encode
+trace_000-13-settled = refl
+
+trace_000-15-settled : settled trace_000_limits trace_000_rules 10 ((10, read_listener_set) ∷ trace_000_13)
+    ≡ trace_000_15
+unfolding settled head_text digits date_at count_off is_name_byte trimmed front_length whole_head host_fits head_of verdict_of target_of framed is_utf8 chars encode
+trace_000-15-settled = refl
+
+trace_000-18-settled : settled trace_000_limits trace_000_rules 10 ((10, write_listener_set) ∷ trace_000_15)
+    ≡ trace_000_18
+unfolding settled head_text digits date_at count_off is_name_byte trimmed front_length whole_head host_fits head_of verdict_of target_of framed is_utf8 chars encode
+trace_000-18-settled = refl
+
+trace_000-19-settled : settled trace_000_limits trace_000_rules 10 ((10, called call.Return None) ∷ (10, back) ∷ trace_000_18)
+    ≡ trace_000_19
+unfolding settled head_text digits date_at count_off is_name_byte trimmed front_length whole_head host_fits head_of verdict_of target_of framed is_utf8 chars encode
+trace_000-19-settled = refl
+
+abbrev trace_004_limits : Limits
+trace_004_limits = record { max_connections = 256; max_head = 257; max_fields = 100; max_keep_alive = pos 1; connection_timeout = 1000; async_timeout = 30000; max_swallow = 2097152; max_trailer = 8192; parts = 3 }
+
+abbrev trace_004_rules : List Rule
+trace_004_rules = record { pattern = (codes "/"); part = 0; can_async = true } ∷ record { pattern = (codes "/a"); part = 1; can_async = true } ∷ record { pattern = (codes "/x/*"); part = 2; can_async = false } ∷ []
+
+abbrev trace_004_01 : Trace
+trace_004_01 = (0, opened) ∷ []
+
+abbrev trace_004_02 : Trace
+trace_004_02 = (0, began (record { place = 0; size = 76; head = record { method = (codes "POST"); target = (codes "/b"); minor = 0; fields = record { name = (codes "Host"); value = (codes "a") } ∷ record { name = (codes "Connection"); value = (codes "keep-alive") } ∷ record { name = (codes "Content-Length"); value = (codes "20000") } ∷ [] }; framing = (framing.Length 20000); max_trailer = 8192; async_timeout = 30000; part = 0; can_async = true; keep = false; go_on = false })) ∷ (0, came (codes "POST /b HTTP/1.0\r\nHost: a\r\nConnection: keep-alive\r\nContent-Length: 20000\r\n\r\n")) ∷ trace_004_01
+
+abbrev trace_004_03 : Trace
+trace_004_03 = (0, called call.Run None) ∷ (0, started (job.Service 0)) ∷ trace_004_02
+
+abbrev trace_004_04 : Trace
+trace_004_04 = (0, called call.Start None) ∷ trace_004_03
+
+abbrev trace_004_05 : Trace
+trace_004_05 = (0, read_listener_set) ∷ trace_004_04
+
+abbrev trace_004_06 : Trace
+trace_004_06 = (0, write_listener_set) ∷ trace_004_05
+
+abbrev trace_004_07 : Trace
+trace_004_07 = (0, called call.Return None) ∷ (0, back) ∷ trace_004_06
+
+abbrev trace_004_08 : Trace
+trace_004_08 = (0, came (codes "zazzddxazcxyzxbbcyxx")) ∷ trace_004_07
+
+abbrev trace_004_09 : Trace
+trace_004_09 = (0, called call.Run None) ∷ (0, started job.Readable) ∷ trace_004_08
+
+abbrev trace_004_10 : Trace
+trace_004_10 = (0, given 5) ∷ trace_004_09
+
+abbrev trace_004_12 : Trace
+trace_004_12 = (0, called call.Return None) ∷ (0, back) ∷ trace_004_10
+
+abbrev trace_004_13 : Trace
+trace_004_13 = (0, called call.Run None) ∷ (0, started job.Writable) ∷ trace_004_12
+
+abbrev trace_004_14 : Trace
+trace_004_14 = (0, given 1) ∷ trace_004_13
+
+abbrev trace_004_15 : Trace
+trace_004_15 = (0, answer_reset) ∷ trace_004_14
+
+abbrev trace_004_17 : Trace
+trace_004_17 = (0, called call.Return None) ∷ (0, back) ∷ trace_004_15
+
+abbrev trace_004_18 : Trace
+trace_004_18 = (0, called call.Fault None) ∷ (0, caused cause.InputEnd) ∷ (0, ended) ∷ trace_004_17
+
+abbrev trace_004_19 : Trace
+trace_004_19 = (0, called call.DispatchOther (Some 1)) ∷ trace_004_18
+
+abbrev trace_004_20 : Trace
+trace_004_20 = (0, started job.ReadError) ∷ trace_004_19
+
+abbrev trace_004_21 : Trace
+trace_004_21 = (0, back) ∷ trace_004_20
+
+abbrev trace_004_22 : Trace
+trace_004_22 = (0, sent 0) ∷ trace_004_21
+
+abbrev trace_004_24 : Trace
+trace_004_24 = (0, started job.WriteError) ∷ trace_004_22
+
+abbrev trace_004_26 : Trace
+trace_004_26 = (0, back) ∷ trace_004_24
+
+abbrev trace_004_27 : Trace
+trace_004_27 = (0, sent 0) ∷ trace_004_26
+
+abbrev trace_004_28 : Trace
+trace_004_28 = (0, called call.Run None) ∷ (0, started (job.Again 1)) ∷ trace_004_27
+
+abbrev trace_004_29 : Trace
+trace_004_29 = (0, parked input_side) ∷ trace_004_28
+
+trace_004-connection : connection_told trace_004_29
+    ≡ record {
+      came = 96;
+      consumed = 82;
+      room = 16370;
+      has_ended = true;
+      cause = (Some cause.InputEnd);
+      is_broken = false;
+      is_gone = false;
+      is_open = true;
+      begun = 1;
+      output = [];
+      took = 0;
+      unsent = 0;
+      idle_since = 0;
+      next_job = (Some job.Resume);
+      charts = (call.Run ∷ call.Start ∷ call.Return ∷ call.Run ∷ call.Return ∷ call.Run ∷ call.Return ∷ call.Fault ∷ call.DispatchOther ∷ call.Run ∷ []) ∷ [];
+    }
+unfolding head_text digits date_at count_off is_name_byte
+trace_004-connection = refl
+
+trace_004-request : request_told trace_004_29
+    ≡ record {
+      part = 1;
+      state = state.Dispatched;
+      running = None;
+      parked = (Some (record { side = input_side; since = 0 }));
+      given = 6;
+      is_end_told = false;
+      waiting = 14;
+      used = 6;
+      swallowed = 0;
+      has_whole_body = false;
+      has_bad_body = false;
+      listeners = [];
+      owed = [];
+      deadline = (Some 30000);
+      ready = record { read_set = false; read_armed = false; all_read_told = false; write_set = false; write_armed = false };
+    }
+unfolding is_name_byte
+trace_004-request = refl
+
+trace_004-answer : answer_told trace_004_29
+    ≡ record {
+      status = 200;
+      fields = [];
+      set_length = None;
+      content = 0;
+      is_aborted = false;
+    }
+unfolding digits
+trace_004-answer = refl
+
+trace_004-open : open_told trace_004_29
+    ≡ record {
+      is_committed = false;
+      takes_one = true;
+      has_to_cut = true;
+    }
+unfolding head_text digits date_at count_off is_name_byte
+trace_004-open = refl
+
+trace_004-01-settled : settled trace_004_limits trace_004_rules 0 ((0, opened) ∷ [])
+    ≡ trace_004_01
+unfolding settled head_text digits date_at count_off is_name_byte trimmed front_length whole_head host_fits head_of verdict_of target_of framed is_utf8 chars encode
+trace_004-01-settled = refl
+
+trace_004-03-next : next_job (trace_004_02)
+    ≡ (Some (job.Service 0))
+unfolding head_text digits date_at count_off is_name_byte
+trace_004-03-next = refl
+
+trace_004-04-settled : settled trace_004_limits trace_004_rules 0 ((0, called call.Start None) ∷ trace_004_03)
+    ≡ trace_004_04
+unfolding settled head_text digits date_at count_off is_name_byte trimmed front_length whole_head host_fits head_of verdict_of target_of framed is_utf8 chars encode
+trace_004-04-settled = refl
+
+trace_004-05-settled : settled trace_004_limits trace_004_rules 0 ((0, read_listener_set) ∷ trace_004_04)
+    ≡ trace_004_05
+unfolding settled head_text digits date_at count_off is_name_byte trimmed front_length whole_head host_fits head_of verdict_of target_of framed is_utf8 chars encode
+trace_004-05-settled = refl
+
+trace_004-06-settled : settled trace_004_limits trace_004_rules 0 ((0, write_listener_set) ∷ trace_004_05)
+    ≡ trace_004_06
+unfolding settled head_text digits date_at count_off is_name_byte trimmed front_length whole_head host_fits head_of verdict_of target_of framed is_utf8 chars encode
+trace_004-06-settled = refl
+
+trace_004-07-settled : settled trace_004_limits trace_004_rules 0 ((0, called call.Return None) ∷ (0, back) ∷ trace_004_06)
+    ≡ trace_004_07
+unfolding settled head_text digits date_at count_off is_name_byte trimmed front_length whole_head host_fits head_of verdict_of target_of framed is_utf8 chars encode
+trace_004-07-settled = refl
+
+trace_004-08-settled : settled trace_004_limits trace_004_rules 0 ((0, came (codes "zazzddxazcxyzxbbcyxx")) ∷ trace_004_07)
+    ≡ trace_004_08
+unfolding settled head_text digits date_at count_off is_name_byte trimmed front_length whole_head host_fits head_of verdict_of target_of framed is_utf8 chars encode
+trace_004-08-settled = refl
+
+trace_004-09-next : next_job (trace_004_08)
+    ≡ (Some job.Readable)
+unfolding head_text digits date_at count_off is_name_byte
+trace_004-09-next = refl
+
+trace_004-10-settled : settled trace_004_limits trace_004_rules 0 ((0, given 5) ∷ trace_004_09)
+    ≡ trace_004_10
+unfolding settled head_text digits date_at count_off is_name_byte trimmed front_length whole_head host_fits head_of verdict_of target_of framed is_utf8 chars encode
+trace_004-10-settled = refl
+
+trace_004-12-settled : settled trace_004_limits trace_004_rules 0 ((0, called call.Return None) ∷ (0, back) ∷ trace_004_10)
+    ≡ trace_004_12
+unfolding settled head_text digits date_at count_off is_name_byte trimmed front_length whole_head host_fits head_of verdict_of target_of framed is_utf8 chars encode
+trace_004-12-settled = refl
+
+trace_004-13-next : next_job (trace_004_12)
+    ≡ (Some job.Writable)
+unfolding head_text digits date_at count_off is_name_byte
+trace_004-13-next = refl
+
+trace_004-14-settled : settled trace_004_limits trace_004_rules 0 ((0, given 1) ∷ trace_004_13)
+    ≡ trace_004_14
+unfolding settled head_text digits date_at count_off is_name_byte trimmed front_length whole_head host_fits head_of verdict_of target_of framed is_utf8 chars encode
+trace_004-14-settled = refl
+
+trace_004-15-settled : settled trace_004_limits trace_004_rules 0 ((0, answer_reset) ∷ trace_004_14)
+    ≡ trace_004_15
+unfolding settled head_text digits date_at count_off is_name_byte trimmed front_length whole_head host_fits head_of verdict_of target_of framed is_utf8 chars encode
+trace_004-15-settled = refl
+
+trace_004-17-settled : settled trace_004_limits trace_004_rules 0 ((0, called call.Return None) ∷ (0, back) ∷ trace_004_15)
+    ≡ trace_004_17
+unfolding settled head_text digits date_at count_off is_name_byte trimmed front_length whole_head host_fits head_of verdict_of target_of framed is_utf8 chars encode
+trace_004-17-settled = refl
+
+trace_004-18-settled : settled trace_004_limits trace_004_rules 0 ((0, ended) ∷ trace_004_17)
+    ≡ trace_004_18
+unfolding settled head_text digits date_at count_off is_name_byte trimmed front_length whole_head host_fits head_of verdict_of target_of framed is_utf8 chars encode
+trace_004-18-settled = refl
+
+trace_004-20-next : next_job (trace_004_19)
+    ≡ (Some job.ReadError)
+unfolding head_text digits date_at count_off is_name_byte
+trace_004-20-next = refl
+
+trace_004-21-settled : settled trace_004_limits trace_004_rules 0 ((0, back) ∷ trace_004_20)
+    ≡ trace_004_21
+unfolding settled head_text digits date_at count_off is_name_byte trimmed front_length whole_head host_fits head_of verdict_of target_of framed is_utf8 chars encode
+trace_004-21-settled = refl
+
+trace_004-22-settled : settled trace_004_limits trace_004_rules 0 ((0, sent 0) ∷ trace_004_21)
+    ≡ trace_004_22
+unfolding settled head_text digits date_at count_off is_name_byte trimmed front_length whole_head host_fits head_of verdict_of target_of framed is_utf8 chars encode
+trace_004-22-settled = refl
+
+trace_004-24-next : next_job (trace_004_22)
+    ≡ (Some job.WriteError)
+unfolding head_text digits date_at count_off is_name_byte
+trace_004-24-next = refl
+
+trace_004-26-settled : settled trace_004_limits trace_004_rules 0 ((0, back) ∷ trace_004_24)
+    ≡ trace_004_26
+unfolding settled head_text digits date_at count_off is_name_byte trimmed front_length whole_head host_fits head_of verdict_of target_of framed is_utf8 chars encode
+trace_004-26-settled = refl
+
+trace_004-27-settled : settled trace_004_limits trace_004_rules 0 ((0, sent 0) ∷ trace_004_26)
+    ≡ trace_004_27
+unfolding settled head_text digits date_at count_off is_name_byte trimmed front_length whole_head host_fits head_of verdict_of target_of framed is_utf8 chars encode
+trace_004-27-settled = refl
+
+trace_004-28-next : next_job (trace_004_27)
+    ≡ (Some (job.Again 1))
+unfolding head_text digits date_at count_off is_name_byte
+trace_004-28-next = refl
+
+trace_004-29-settled : settled trace_004_limits trace_004_rules 0 ((0, parked input_side) ∷ trace_004_28)
+    ≡ trace_004_29
+unfolding settled head_text digits date_at count_off is_name_byte trimmed front_length whole_head host_fits head_of verdict_of target_of framed is_utf8 chars encode
+trace_004-29-settled = refl
+
+trace_004-30-tick : tick_move trace_004_limits 1 trace_004_29
+    ≡ None
+unfolding head_text digits date_at count_off is_name_byte
+trace_004-30-tick = refl
+
+abbrev trace_005_limits : Limits
+trace_005_limits = record { max_connections = 256; max_head = 1000; max_fields = 100; max_keep_alive = pos 2; connection_timeout = 100; async_timeout = 100; max_swallow = 2097152; max_trailer = 12; parts = 4 }
+
+abbrev trace_005_rules : List Rule
+trace_005_rules = record { pattern = (codes "*.do"); part = 3; can_async = true } ∷ []
+
+abbrev trace_005_01 : Trace
+trace_005_01 = (0, opened) ∷ []
+
+abbrev trace_005_02 : Trace
+trace_005_02 = (0, caused cause.BadBody) ∷ (0, began (record { place = 0; size = 58; head = record { method = (codes "GET"); target = (codes "/q.do"); minor = 1; fields = record { name = (codes "Host"); value = [] } ∷ record { name = (codes "Transfer-Encoding"); value = (codes "chunked") } ∷ [] }; framing = framing.Chunked; max_trailer = 12; async_timeout = 100; part = 3; can_async = true; keep = true; go_on = false })) ∷ (0, came (71 ∷ 69 ∷ 84 ∷ 32 ∷ 47 ∷ 113 ∷ 46 ∷ 100 ∷ 111 ∷ 32 ∷ 72 ∷ 84 ∷ 84 ∷ 80 ∷ 47 ∷ 49 ∷ 46 ∷ 49 ∷ 13 ∷ 10 ∷ 72 ∷ 111 ∷ 115 ∷ 116 ∷ 58 ∷ 32 ∷ 13 ∷ 10 ∷ 84 ∷ 114 ∷ 97 ∷ 110 ∷ 115 ∷ 102 ∷ 101 ∷ 114 ∷ 45 ∷ 69 ∷ 110 ∷ 99 ∷ 111 ∷ 100 ∷ 105 ∷ 110 ∷ 103 ∷ 58 ∷ 32 ∷ 99 ∷ 104 ∷ 117 ∷ 110 ∷ 107 ∷ 101 ∷ 100 ∷ 13 ∷ 10 ∷ 13 ∷ 10 ∷ 48 ∷ 59 ∷ 108 ∷ 97 ∷ 115 ∷ 116 ∷ 13 ∷ 10 ∷ 88 ∷ 45 ∷ 83 ∷ 117 ∷ 109 ∷ 58 ∷ 9 ∷ 32 ∷ 55 ∷ 32 ∷ 13 ∷ 10 ∷ 84 ∷ 58 ∷ 32 ∷ 119 ∷ 13 ∷ 10 ∷ 84 ∷ 58 ∷ 32 ∷ 118 ∷ 13 ∷ 10 ∷ 13 ∷ 10 ∷ 80 ∷ 79 ∷ 83 ∷ 84 ∷ 32 ∷ 47 ∷ 32 ∷ 72 ∷ 84 ∷ 84 ∷ 80 ∷ 47 ∷ 49 ∷ 46 ∷ 49 ∷ 13 ∷ 10 ∷ 67 ∷ 111 ∷ 110 ∷ 110 ∷ 101 ∷ 99 ∷ 116 ∷ 105 ∷ 111 ∷ 110 ∷ 58 ∷ 32 ∷ 107 ∷ 101 ∷ 101 ∷ 112 ∷ 45 ∷ 97 ∷ 108 ∷ 105 ∷ 118 ∷ 101 ∷ 13 ∷ 10 ∷ 72 ∷ 111 ∷ 115 ∷ 116 ∷ 58 ∷ 32 ∷ 97 ∷ 13 ∷ 10 ∷ 116 ∷ 114 ∷ 97 ∷ 110 ∷ 115 ∷ 102 ∷ 101 ∷ 114 ∷ 45 ∷ 101 ∷ 110 ∷ 99 ∷ 111 ∷ 100 ∷ 105 ∷ 110 ∷ 103 ∷ 58 ∷ 44 ∷ 32 ∷ 99 ∷ 104 ∷ 117 ∷ 110 ∷ 107 ∷ 101 ∷ 100 ∷ 13 ∷ 10 ∷ 13 ∷ 10 ∷ 50 ∷ 56 ∷ 13 ∷ 10 ∷ 112 ∷ 111 ∷ 110 ∷ 109 ∷ 110 ∷ 108 ∷ 107 ∷ 109 ∷ 108 ∷ 111 ∷ 111 ∷ 107 ∷ 111 ∷ 107 ∷ 109 ∷ 111 ∷ 109 ∷ 109 ∷ 110 ∷ 107 ∷ 111 ∷ 108 ∷ 107 ∷ 108 ∷ 107 ∷ 107 ∷ 110 ∷ 112 ∷ 110 ∷ 111 ∷ 110 ∷ 110 ∷ 112 ∷ 107 ∷ 109 ∷ 108 ∷ 112 ∷ 110 ∷ 111 ∷ 109 ∷ 13 ∷ 10 ∷ 48 ∷ 13 ∷ 10 ∷ 97 ∷ 58 ∷ 13 ∷ 10 ∷ 88 ∷ 45 ∷ 83 ∷ 117 ∷ 109 ∷ 58 ∷ 9 ∷ 32 ∷ 55 ∷ 32 ∷ 13 ∷ 10 ∷ 88 ∷ 45 ∷ 83 ∷ 117 ∷ 109 ∷ 58 ∷ 9 ∷ 32 ∷ 55 ∷ 32 ∷ 13 ∷ 10 ∷ 13 ∷ 10 ∷ [])) ∷ trace_005_01
+
+abbrev trace_005_03 : Trace
+trace_005_03 = (0, called call.Run None) ∷ (0, started (job.Service 3)) ∷ trace_005_02
+
+abbrev trace_005_04 : Trace
+trace_005_04 = (0, called call.Start None) ∷ trace_005_03
+
+abbrev trace_005_05 : Trace
+trace_005_05 = (0, timeout_set 86400000) ∷ trace_005_04
+
+abbrev trace_005_06 : Trace
+trace_005_06 = (0, listened 2) ∷ trace_005_05
+
+abbrev trace_005_07 : Trace
+trace_005_07 = (0, called call.Return None) ∷ (0, back) ∷ trace_005_06
+
+abbrev trace_005_10 : Trace
+trace_005_10 = (0, sent 0) ∷ trace_005_07
+
+abbrev trace_005_11 : Trace
+trace_005_11 = (86400000, called call.Timeout None) ∷ trace_005_10
+
+abbrev trace_005_12 : Trace
+trace_005_12 = (86400000, started (job.OnTimeout 0 2)) ∷ trace_005_11
+
+abbrev trace_005_13 : Trace
+trace_005_13 = (86400000, error_answer 500) ∷ (86400000, called call.Return None) ∷ (86400000, called call.Return None) ∷ (86400000, back) ∷ trace_005_12
+
+abbrev trace_005_14 : Trace
+trace_005_14 = (86400000, started (job.OnComplete 0 2)) ∷ trace_005_13
+
+abbrev trace_005_15 : Trace
+trace_005_15 = (86400000, over) ∷ (86400000, error_answer 400) ∷ (86400000, called call.Return None) ∷ (86400000, back) ∷ trace_005_14
+
+abbrev trace_005_18 : Trace
+trace_005_18 = (86400000, sent 1) ∷ trace_005_15
+
+abbrev trace_005_20 : Trace
+trace_005_20 = (86400001, sent 128) ∷ trace_005_18
+
+trace_005-connection : connection_told trace_005_20
+    ≡ record {
+      came = 252;
+      consumed = 74;
+      room = 16206;
+      has_ended = false;
+      cause = (Some cause.BadBody);
+      is_broken = false;
+      is_gone = true;
+      is_open = false;
+      begun = 1;
+      output = (codes "HTTP/1.1 400 \r\nContent-Type: text/plain\r\nContent-Length: 10\r\nDate: Fri, 02 Jan 1970 00:00:00 GMT\r\nConnection: close\r\n\r\nError 400\n");
+      took = 129;
+      unsent = 0;
+      idle_since = 86400000;
+      next_job = None;
+      charts = (call.Run ∷ call.Start ∷ call.Return ∷ call.Timeout ∷ call.Return ∷ call.Return ∷ call.Return ∷ []) ∷ [];
+    }
+unfolding head_text digits date_at count_off is_name_byte
+trace_005-connection = refl
+
+trace_005-request : request_told trace_005_20
+    ≡ record {
+      part = 3;
+      state = state.Completing;
+      running = None;
+      parked = None;
+      given = 0;
+      is_end_told = false;
+      waiting = 0;
+      used = 16;
+      swallowed = 16;
+      has_whole_body = false;
+      has_bad_body = true;
+      listeners = 2 ∷ [];
+      owed = [];
+      deadline = (Some 86400000);
+      ready = record { read_set = false; read_armed = false; all_read_told = false; write_set = false; write_armed = false };
+    }
+unfolding is_name_byte
+trace_005-request = refl
+
+trace_005-answer : answer_told trace_005_20
+    ≡ record {
+      status = 400;
+      fields = record { name = (codes "Content-Type"); value = (codes "text/plain") } ∷ [];
+      set_length = None;
+      content = 10;
+      is_aborted = false;
+    }
+unfolding digits
+trace_005-answer = refl
+
+trace_005-01-settled : settled trace_005_limits trace_005_rules 0 ((0, opened) ∷ [])
+    ≡ trace_005_01
+unfolding settled head_text digits date_at count_off is_name_byte trimmed front_length whole_head host_fits head_of verdict_of target_of framed is_utf8 chars encode
+trace_005-01-settled = refl
+
+trace_005-03-next : next_job (trace_005_02)
+    ≡ (Some (job.Service 3))
+unfolding head_text digits date_at count_off is_name_byte
+trace_005-03-next = refl
+
+trace_005-04-settled : settled trace_005_limits trace_005_rules 0 ((0, called call.Start None) ∷ trace_005_03)
+    ≡ trace_005_04
+unfolding settled head_text digits date_at count_off is_name_byte trimmed front_length whole_head host_fits head_of verdict_of target_of framed is_utf8 chars encode
+trace_005-04-settled = refl
+
+trace_005-05-settled : settled trace_005_limits trace_005_rules 0 ((0, timeout_set 86400000) ∷ trace_005_04)
+    ≡ trace_005_05
+unfolding settled head_text digits date_at count_off is_name_byte trimmed front_length whole_head host_fits head_of verdict_of target_of framed is_utf8 chars encode
+trace_005-05-settled = refl
+
+trace_005-06-settled : settled trace_005_limits trace_005_rules 0 ((0, listened 2) ∷ trace_005_05)
+    ≡ trace_005_06
+unfolding settled head_text digits date_at count_off is_name_byte trimmed front_length whole_head host_fits head_of verdict_of target_of framed is_utf8 chars encode
+trace_005-06-settled = refl
+
+trace_005-07-settled : settled trace_005_limits trace_005_rules 0 ((0, called call.Return None) ∷ (0, back) ∷ trace_005_06)
+    ≡ trace_005_07
+unfolding settled head_text digits date_at count_off is_name_byte trimmed front_length whole_head host_fits head_of verdict_of target_of framed is_utf8 chars encode
+trace_005-07-settled = refl
+
+trace_005-10-settled : settled trace_005_limits trace_005_rules 0 ((0, sent 0) ∷ trace_005_07)
+    ≡ trace_005_10
+unfolding settled head_text digits date_at count_off is_name_byte trimmed front_length whole_head host_fits head_of verdict_of target_of framed is_utf8 chars encode
+trace_005-10-settled = refl
+
+trace_005-11-tick : tick_move trace_005_limits 86400000 trace_005_10
+    ≡ Some (called call.Timeout None ∷ [])
+unfolding head_text digits date_at count_off is_name_byte
+trace_005-11-tick = refl
+
+trace_005-11-settled : settled trace_005_limits trace_005_rules 86400000 ((86400000, called call.Timeout None) ∷ trace_005_10)
+    ≡ trace_005_11
+unfolding settled head_text digits date_at count_off is_name_byte trimmed front_length whole_head host_fits head_of verdict_of target_of framed is_utf8 chars encode
+trace_005-11-settled = refl
+
+trace_005-12-next : next_job (trace_005_11)
+    ≡ (Some (job.OnTimeout 0 2))
+unfolding head_text digits date_at count_off is_name_byte
+trace_005-12-next = refl
+
+trace_005-13-settled : settled trace_005_limits trace_005_rules 86400000 ((86400000, back) ∷ trace_005_12)
+    ≡ trace_005_13
+unfolding settled head_text digits date_at count_off is_name_byte trimmed front_length whole_head host_fits head_of verdict_of target_of framed is_utf8 chars encode
+trace_005-13-settled = refl
+
+trace_005-14-next : next_job (trace_005_13)
+    ≡ (Some (job.OnComplete 0 2))
+unfolding head_text digits date_at count_off is_name_byte
+trace_005-14-next = refl
+
+trace_005-15-settled : settled trace_005_limits trace_005_rules 86400000 ((86400000, back) ∷ trace_005_14)
+    ≡ trace_005_15
+unfolding settled head_text digits date_at count_off is_name_byte trimmed front_length whole_head host_fits head_of verdict_of target_of framed is_utf8 chars encode
+trace_005-15-settled = refl
+
+trace_005-18-settled : settled trace_005_limits trace_005_rules 86400000 ((86400000, sent 1) ∷ trace_005_15)
+    ≡ trace_005_18
+unfolding settled head_text digits date_at count_off is_name_byte trimmed front_length whole_head host_fits head_of verdict_of target_of framed is_utf8 chars encode
+trace_005-18-settled = refl
+
+trace_005-19-tick : tick_move trace_005_limits 86400001 trace_005_18
+    ≡ None
+unfolding head_text digits date_at count_off is_name_byte
+trace_005-19-tick = refl
+
+trace_005-20-settled : settled trace_005_limits trace_005_rules 86400001 ((86400001, sent 128) ∷ trace_005_18)
+    ≡ trace_005_20
+unfolding settled head_text digits date_at count_off is_name_byte trimmed front_length whole_head host_fits head_of verdict_of target_of framed is_utf8 chars encode
+trace_005-20-settled = refl
+
+abbrev trace_011_limits : Limits
+trace_011_limits = record { max_connections = 256; max_head = 256; max_fields = 100; max_keep_alive = pos 100; connection_timeout = 20000; async_timeout = 30000; max_swallow = 2097152; max_trailer = 8192; parts = 3 }
+
+abbrev trace_011_rules : List Rule
+trace_011_rules = record { pattern = (codes "/"); part = 0; can_async = true } ∷ record { pattern = (codes "/a"); part = 1; can_async = true } ∷ record { pattern = (codes "/x/*"); part = 2; can_async = false } ∷ []
+
+abbrev trace_011_01 : Trace
+trace_011_01 = (0, opened) ∷ []
+
+abbrev trace_011_02 : Trace
+trace_011_02 = (0, began (record { place = 0; size = 60; head = record { method = (codes "POST"); target = (codes "/x"); minor = 1; fields = record { name = (codes "Host"); value = (codes "a.b%41") } ∷ record { name = (codes "Content-Length"); value = (codes "00") } ∷ record { name = (codes "X"); value = (codes "l") } ∷ [] }; framing = (framing.Length 0); max_trailer = 8192; async_timeout = 30000; part = 2; can_async = false; keep = true; go_on = false })) ∷ (0, came (codes "POST /x HTTP/1.1\r\nHost: a.b%41\r\nContent-Length: 00\r\nX: l\r\n\r\n")) ∷ trace_011_01
+
+abbrev trace_011_03 : Trace
+trace_011_03 = (0, called call.Run None) ∷ (0, started (job.Service 2)) ∷ trace_011_02
+
+abbrev trace_011_06 : Trace
+trace_011_06 = (0, parked output_side) ∷ trace_011_03
+
+abbrev trace_011_07 : Trace
+trace_011_07 = (0, started job.Resume) ∷ trace_011_06
+
+abbrev trace_011_08 : Trace
+trace_011_08 = (0, came (codes "PO")) ∷ trace_011_07
+
+abbrev trace_011_09 : Trace
+trace_011_09 = (0, end_given) ∷ trace_011_08
+
+abbrev trace_011_10 : Trace
+trace_011_10 = (0, parked output_side) ∷ trace_011_09
+
+abbrev trace_011_11 : Trace
+trace_011_11 = (0, started job.Resume) ∷ trace_011_10
+
+abbrev trace_011_12 : Trace
+trace_011_12 = (0, over) ∷ (0, error_answer 500) ∷ (0, called call.Fail None) ∷ (0, back) ∷ trace_011_11
+
+abbrev trace_011_13 : Trace
+trace_011_13 = (0, sent 1) ∷ trace_011_12
+
+abbrev trace_011_14 : Trace
+trace_011_14 = (0, began (record { place = 60; size = 52; head = record { method = (codes "POST"); target = (codes "/"); minor = 1; fields = record { name = (codes "Host"); value = [] } ∷ record { name = (codes "Content-Length"); value = (codes "5") } ∷ record { name = (codes "A"); value = (codes "b") } ∷ [] }; framing = (framing.Length 5); max_trailer = 8192; async_timeout = 30000; part = 0; can_async = true; keep = true; go_on = false })) ∷ (0, came (codes "ST / HTTP/1.1\r\nHost: \r\nContent-Length: 5\r\nA: b\r\n\r\n")) ∷ trace_011_13
+
+trace_011-connection : connection_told trace_011_14
+    ≡ record {
+      came = 112;
+      consumed = 112;
+      room = 16384;
+      has_ended = false;
+      cause = None;
+      is_broken = false;
+      is_gone = false;
+      is_open = true;
+      begun = 2;
+      output = (codes "HTTP/1.1 500 \r\nContent-Type: text/plain\r\nContent-Length: 10\r\nDate: Thu, 01 Jan 1970 00:00:00 GMT\r\n\r\nError 500\n");
+      took = 1;
+      unsent = 109;
+      idle_since = 0;
+      next_job = (Some (job.Service 0));
+      charts = (call.Run ∷ call.Fail ∷ []) ∷ ([]) ∷ [];
+    }
+unfolding head_text digits date_at count_off is_name_byte
+trace_011-connection = refl
+
+trace_011-request : request_told trace_011_14
+    ≡ record {
+      part = 0;
+      state = state.Dispatched;
+      running = None;
+      parked = None;
+      given = 0;
+      is_end_told = false;
+      waiting = 0;
+      used = 0;
+      swallowed = 0;
+      has_whole_body = false;
+      has_bad_body = false;
+      listeners = [];
+      owed = [];
+      deadline = None;
+      ready = record { read_set = false; read_armed = false; all_read_told = false; write_set = false; write_armed = false };
+    }
+unfolding is_name_byte
+trace_011-request = refl
+
+trace_011-answer : answer_told trace_011_14
+    ≡ record {
+      status = 200;
+      fields = [];
+      set_length = None;
+      content = 0;
+      is_aborted = false;
+    }
+unfolding digits
+trace_011-answer = refl
+
+trace_011-open : open_told trace_011_14
+    ≡ record {
+      is_committed = false;
+      takes_one = true;
+      has_to_cut = true;
+    }
+unfolding head_text digits date_at count_off is_name_byte
+trace_011-open = refl
+
+trace_011-01-settled : settled trace_011_limits trace_011_rules 0 ((0, opened) ∷ [])
+    ≡ trace_011_01
+unfolding settled head_text digits date_at count_off is_name_byte trimmed front_length whole_head host_fits head_of verdict_of target_of framed is_utf8 chars encode
+trace_011-01-settled = refl
+
+trace_011-03-next : next_job (trace_011_02)
+    ≡ (Some (job.Service 2))
+unfolding head_text digits date_at count_off is_name_byte
+trace_011-03-next = refl
+
+trace_011-06-settled : settled trace_011_limits trace_011_rules 0 ((0, parked output_side) ∷ trace_011_03)
+    ≡ trace_011_06
+unfolding settled head_text digits date_at count_off is_name_byte trimmed front_length whole_head host_fits head_of verdict_of target_of framed is_utf8 chars encode
+trace_011-06-settled = refl
+
+trace_011-07-next : next_job (trace_011_06)
+    ≡ (Some job.Resume)
+unfolding head_text digits date_at count_off is_name_byte
+trace_011-07-next = refl
+
+trace_011-08-settled : settled trace_011_limits trace_011_rules 0 ((0, came (codes "PO")) ∷ trace_011_07)
+    ≡ trace_011_08
+unfolding settled head_text digits date_at count_off is_name_byte trimmed front_length whole_head host_fits head_of verdict_of target_of framed is_utf8 chars encode
+trace_011-08-settled = refl
+
+trace_011-09-settled : settled trace_011_limits trace_011_rules 0 ((0, end_given) ∷ trace_011_08)
+    ≡ trace_011_09
+unfolding settled head_text digits date_at count_off is_name_byte trimmed front_length whole_head host_fits head_of verdict_of target_of framed is_utf8 chars encode
+trace_011-09-settled = refl
+
+trace_011-10-settled : settled trace_011_limits trace_011_rules 0 ((0, parked output_side) ∷ trace_011_09)
+    ≡ trace_011_10
+unfolding settled head_text digits date_at count_off is_name_byte trimmed front_length whole_head host_fits head_of verdict_of target_of framed is_utf8 chars encode
+trace_011-10-settled = refl
+
+trace_011-11-next : next_job (trace_011_10)
+    ≡ (Some job.Resume)
+unfolding head_text digits date_at count_off is_name_byte
+trace_011-11-next = refl
+
+trace_011-12-end : end_marks ((0, error_answer 500) ∷ (0, called call.Fail None) ∷ (0, back) ∷ trace_011_11)
+    ≡ (over ∷ [])
+unfolding head_text digits date_at count_off is_name_byte
+trace_011-12-end = refl
+
+trace_011-12-settled : settled trace_011_limits trace_011_rules 0 ((0, over) ∷ (0, error_answer 500) ∷ (0, called call.Fail None) ∷ (0, back) ∷ trace_011_11)
+    ≡ trace_011_12
+unfolding settled head_text digits date_at count_off is_name_byte trimmed front_length whole_head host_fits head_of verdict_of target_of framed is_utf8 chars encode
+trace_011-12-settled = refl
+
+trace_011-13-settled : settled trace_011_limits trace_011_rules 0 ((0, sent 1) ∷ trace_011_12)
+    ≡ trace_011_13
+unfolding settled head_text digits date_at count_off is_name_byte trimmed front_length whole_head host_fits head_of verdict_of target_of framed is_utf8 chars encode
+trace_011-13-settled = refl
+
+abbrev trace_012_limits : Limits
+trace_012_limits = record { max_connections = 256; max_head = 8192; max_fields = 100; max_keep_alive = pos 100; connection_timeout = 20000; async_timeout = 100; max_swallow = 2097152; max_trailer = 8192; parts = 3 }
+
+abbrev trace_012_rules : List Rule
+trace_012_rules = record { pattern = (codes "/"); part = 0; can_async = true } ∷ record { pattern = (codes "/a"); part = 1; can_async = true } ∷ record { pattern = (codes "/x/*"); part = 2; can_async = false } ∷ []
+
+abbrev trace_012_01 : Trace
+trace_012_01 = (0, opened) ∷ []
+
+abbrev trace_012_02 : Trace
+trace_012_02 = (0, sent 0) ∷ trace_012_01
+
+abbrev trace_012_03 : Trace
+trace_012_03 = (0, came []) ∷ trace_012_02
+
+abbrev trace_012_04 : Trace
+trace_012_04 = (0, began (record { place = 0; size = 58; head = record { method = (codes "GET"); target = (codes "//a//b/"); minor = 1; fields = record { name = (codes "A"); value = (codes "b") } ∷ record { name = (codes "Host"); value = (codes "localhost:8080") } ∷ record { name = (codes "A"); value = (codes "b") } ∷ [] }; framing = framing.None; max_trailer = 8192; async_timeout = 100; part = 0; can_async = true; keep = true; go_on = false })) ∷ (0, came (71 ∷ 69 ∷ 84 ∷ 32 ∷ 47 ∷ 47 ∷ 97 ∷ 47 ∷ 47 ∷ 98 ∷ 47 ∷ 32 ∷ 72 ∷ 84 ∷ 84 ∷ 80 ∷ 47 ∷ 49 ∷ 46 ∷ 49 ∷ 13 ∷ 10 ∷ 65 ∷ 58 ∷ 32 ∷ 98 ∷ 13 ∷ 10 ∷ 72 ∷ 111 ∷ 115 ∷ 116 ∷ 58 ∷ 32 ∷ 108 ∷ 111 ∷ 99 ∷ 97 ∷ 108 ∷ 104 ∷ 111 ∷ 115 ∷ 116 ∷ 58 ∷ 56 ∷ 48 ∷ 56 ∷ 48 ∷ 13 ∷ 10 ∷ 65 ∷ 58 ∷ 32 ∷ 98 ∷ 13 ∷ 10 ∷ 13 ∷ 10 ∷ 80 ∷ 79 ∷ 83 ∷ 84 ∷ 32 ∷ 47 ∷ 47 ∷ 97 ∷ 47 ∷ 47 ∷ 98 ∷ 47 ∷ 32 ∷ 72 ∷ 84 ∷ 84 ∷ 80 ∷ 47 ∷ 49 ∷ 46 ∷ 49 ∷ 13 ∷ 10 ∷ 72 ∷ 111 ∷ 115 ∷ 116 ∷ 58 ∷ 32 ∷ 108 ∷ 111 ∷ 99 ∷ 97 ∷ 108 ∷ 104 ∷ 111 ∷ 115 ∷ 116 ∷ 58 ∷ 56 ∷ 48 ∷ 56 ∷ 48 ∷ 13 ∷ 10 ∷ 84 ∷ 114 ∷ 97 ∷ 110 ∷ 115 ∷ 102 ∷ 101 ∷ 114 ∷ 45 ∷ 69 ∷ 110 ∷ 99 ∷ 111 ∷ 100 ∷ 105 ∷ 110 ∷ 103 ∷ 58 ∷ 32 ∷ 44 ∷ 32 ∷ 99 ∷ 104 ∷ 117 ∷ 110 ∷ 107 ∷ 101 ∷ 100 ∷ 13 ∷ 10 ∷ 13 ∷ 10 ∷ 49 ∷ 49 ∷ 9 ∷ 32 ∷ 59 ∷ 32 ∷ 122 ∷ 61 ∷ 34 ∷ 113 ∷ 34 ∷ 13 ∷ 10 ∷ 110 ∷ 111 ∷ 112 ∷ 112 ∷ 110 ∷ 111 ∷ 108 ∷ 109 ∷ 108 ∷ 107 ∷ 112 ∷ 112 ∷ 108 ∷ 107 ∷ 108 ∷ 108 ∷ 110 ∷ 13 ∷ 10 ∷ 48 ∷ 59 ∷ 108 ∷ 97 ∷ 115 ∷ 116 ∷ 13 ∷ 10 ∷ 81 ∷ 58 ∷ 128 ∷ 255 ∷ 13 ∷ 10 ∷ 13 ∷ 10 ∷ 72 ∷ 69 ∷ 65 ∷ 68 ∷ 32 ∷ 47 ∷ 97 ∷ 47 ∷ 46 ∷ 47 ∷ 98 ∷ 47 ∷ 46 ∷ 46 ∷ 47 ∷ 99 ∷ 63 ∷ 113 ∷ 61 ∷ 49 ∷ 32 ∷ 72 ∷ 84 ∷ 84 ∷ 80 ∷ 47 ∷ 49 ∷ 46 ∷ 49 ∷ 13 ∷ 10 ∷ 72 ∷ 111 ∷ 115 ∷ 116 ∷ 58 ∷ 32 ∷ 108 ∷ 111 ∷ 99 ∷ 97 ∷ 108 ∷ 104 ∷ 111 ∷ 115 ∷ 116 ∷ 58 ∷ 56 ∷ 48 ∷ 56 ∷ 48 ∷ 13 ∷ 10 ∷ 67 ∷ 111 ∷ 110 ∷ 116 ∷ 101 ∷ 110 ∷ 116 ∷ 45 ∷ 76 ∷ 101 ∷ 110 ∷ 103 ∷ 116 ∷ 104 ∷ 58 ∷ 32 ∷ 48 ∷ 49 ∷ 13 ∷ 10 ∷ 13 ∷ 10 ∷ 98 ∷ [])) ∷ trace_012_03
+
+abbrev trace_012_05 : Trace
+trace_012_05 = (0, called call.Run None) ∷ (0, started (job.Service 0)) ∷ trace_012_04
+
+abbrev trace_012_06 : Trace
+trace_012_06 = (0, called call.Start None) ∷ trace_012_05
+
+abbrev trace_012_07 : Trace
+trace_012_07 = (0, end_given) ∷ trace_012_06
+
+abbrev trace_012_08 : Trace
+trace_012_08 = (0, end_given) ∷ trace_012_07
+
+abbrev trace_012_09 : Trace
+trace_012_09 = (0, listened 63) ∷ trace_012_08
+
+abbrev trace_012_10 : Trace
+trace_012_10 = (0, end_given) ∷ trace_012_09
+
+abbrev trace_012_12 : Trace
+trace_012_12 = (2, end_given) ∷ trace_012_10
+
+abbrev trace_012_13 : Trace
+trace_012_13 = (2, called call.Fault None) ∷ (2, broken) ∷ (2, caused cause.Shut) ∷ trace_012_12
+
+abbrev trace_012_14 : Trace
+trace_012_14 = (2, called call.Return None) ∷ (2, back) ∷ trace_012_13
+
+abbrev trace_012_15 : Trace
+trace_012_15 = (2, called call.CompleteOther None) ∷ trace_012_14
+
+abbrev trace_012_16 : Trace
+trace_012_16 = (2, started (job.OnError 0 63)) ∷ trace_012_15
+
+abbrev trace_012_17 : Trace
+trace_012_17 = (2, back) ∷ trace_012_16
+
+trace_012-connection : connection_told trace_012_17
+    ≡ record {
+      came = 259;
+      consumed = 58;
+      room = 16183;
+      has_ended = false;
+      cause = (Some cause.Shut);
+      is_broken = true;
+      is_gone = false;
+      is_open = true;
+      begun = 1;
+      output = [];
+      took = 0;
+      unsent = 0;
+      idle_since = 0;
+      next_job = (Some (job.OnComplete 0 63));
+      charts = (call.Run ∷ call.Start ∷ call.Fault ∷ call.Return ∷ call.CompleteOther ∷ []) ∷ [];
+    }
+unfolding head_text digits date_at count_off is_name_byte
+trace_012-connection = refl
+
+trace_012-request : request_told trace_012_17
+    ≡ record {
+      part = 0;
+      state = state.Completing;
+      running = None;
+      parked = None;
+      given = 0;
+      is_end_told = true;
+      waiting = 0;
+      used = 0;
+      swallowed = 0;
+      has_whole_body = true;
+      has_bad_body = false;
+      listeners = 63 ∷ [];
+      owed = (job.OnComplete 0 63) ∷ [];
+      deadline = None;
+      ready = record { read_set = false; read_armed = false; all_read_told = false; write_set = false; write_armed = false };
+    }
+unfolding is_name_byte
+trace_012-request = refl
+
+trace_012-answer : answer_told trace_012_17
+    ≡ record {
+      status = 200;
+      fields = [];
+      set_length = None;
+      content = 0;
+      is_aborted = false;
+    }
+unfolding digits
+trace_012-answer = refl
+
+trace_012-open : open_told trace_012_17
+    ≡ record {
+      is_committed = false;
+      takes_one = true;
+      has_to_cut = true;
+    }
+unfolding head_text digits date_at count_off is_name_byte
+trace_012-open = refl
+
+trace_012-01-settled : settled trace_012_limits trace_012_rules 0 ((0, opened) ∷ [])
+    ≡ trace_012_01
+unfolding settled head_text digits date_at count_off is_name_byte trimmed front_length whole_head host_fits head_of verdict_of target_of framed is_utf8 chars encode
+trace_012-01-settled = refl
+
+trace_012-02-settled : settled trace_012_limits trace_012_rules 0 ((0, sent 0) ∷ trace_012_01)
+    ≡ trace_012_02
+unfolding settled head_text digits date_at count_off is_name_byte trimmed front_length whole_head host_fits head_of verdict_of target_of framed is_utf8 chars encode
+trace_012-02-settled = refl
+
+trace_012-03-settled : settled trace_012_limits trace_012_rules 0 ((0, came []) ∷ trace_012_02)
+    ≡ trace_012_03
+unfolding settled head_text digits date_at count_off is_name_byte trimmed front_length whole_head host_fits head_of verdict_of target_of framed is_utf8 chars encode
+trace_012-03-settled = refl
+
+trace_012-04-settled : settled trace_012_limits trace_012_rules 0 ((0, came (71 ∷ 69 ∷ 84 ∷ 32 ∷ 47 ∷ 47 ∷ 97 ∷ 47 ∷ 47 ∷ 98 ∷ 47 ∷ 32 ∷ 72 ∷ 84 ∷ 84 ∷ 80 ∷ 47 ∷ 49 ∷ 46 ∷ 49 ∷ 13 ∷ 10 ∷ 65 ∷ 58 ∷ 32 ∷ 98 ∷ 13 ∷ 10 ∷ 72 ∷ 111 ∷ 115 ∷ 116 ∷ 58 ∷ 32 ∷ 108 ∷ 111 ∷ 99 ∷ 97 ∷ 108 ∷ 104 ∷ 111 ∷ 115 ∷ 116 ∷ 58 ∷ 56 ∷ 48 ∷ 56 ∷ 48 ∷ 13 ∷ 10 ∷ 65 ∷ 58 ∷ 32 ∷ 98 ∷ 13 ∷ 10 ∷ 13 ∷ 10 ∷ 80 ∷ 79 ∷ 83 ∷ 84 ∷ 32 ∷ 47 ∷ 47 ∷ 97 ∷ 47 ∷ 47 ∷ 98 ∷ 47 ∷ 32 ∷ 72 ∷ 84 ∷ 84 ∷ 80 ∷ 47 ∷ 49 ∷ 46 ∷ 49 ∷ 13 ∷ 10 ∷ 72 ∷ 111 ∷ 115 ∷ 116 ∷ 58 ∷ 32 ∷ 108 ∷ 111 ∷ 99 ∷ 97 ∷ 108 ∷ 104 ∷ 111 ∷ 115 ∷ 116 ∷ 58 ∷ 56 ∷ 48 ∷ 56 ∷ 48 ∷ 13 ∷ 10 ∷ 84 ∷ 114 ∷ 97 ∷ 110 ∷ 115 ∷ 102 ∷ 101 ∷ 114 ∷ 45 ∷ 69 ∷ 110 ∷ 99 ∷ 111 ∷ 100 ∷ 105 ∷ 110 ∷ 103 ∷ 58 ∷ 32 ∷ 44 ∷ 32 ∷ 99 ∷ 104 ∷ 117 ∷ 110 ∷ 107 ∷ 101 ∷ 100 ∷ 13 ∷ 10 ∷ 13 ∷ 10 ∷ 49 ∷ 49 ∷ 9 ∷ 32 ∷ 59 ∷ 32 ∷ 122 ∷ 61 ∷ 34 ∷ 113 ∷ 34 ∷ 13 ∷ 10 ∷ 110 ∷ 111 ∷ 112 ∷ 112 ∷ 110 ∷ 111 ∷ 108 ∷ 109 ∷ 108 ∷ 107 ∷ 112 ∷ 112 ∷ 108 ∷ 107 ∷ 108 ∷ 108 ∷ 110 ∷ 13 ∷ 10 ∷ 48 ∷ 59 ∷ 108 ∷ 97 ∷ 115 ∷ 116 ∷ 13 ∷ 10 ∷ 81 ∷ 58 ∷ 128 ∷ 255 ∷ 13 ∷ 10 ∷ 13 ∷ 10 ∷ 72 ∷ 69 ∷ 65 ∷ 68 ∷ 32 ∷ 47 ∷ 97 ∷ 47 ∷ 46 ∷ 47 ∷ 98 ∷ 47 ∷ 46 ∷ 46 ∷ 47 ∷ 99 ∷ 63 ∷ 113 ∷ 61 ∷ 49 ∷ 32 ∷ 72 ∷ 84 ∷ 84 ∷ 80 ∷ 47 ∷ 49 ∷ 46 ∷ 49 ∷ 13 ∷ 10 ∷ 72 ∷ 111 ∷ 115 ∷ 116 ∷ 58 ∷ 32 ∷ 108 ∷ 111 ∷ 99 ∷ 97 ∷ 108 ∷ 104 ∷ 111 ∷ 115 ∷ 116 ∷ 58 ∷ 56 ∷ 48 ∷ 56 ∷ 48 ∷ 13 ∷ 10 ∷ 67 ∷ 111 ∷ 110 ∷ 116 ∷ 101 ∷ 110 ∷ 116 ∷ 45 ∷ 76 ∷ 101 ∷ 110 ∷ 103 ∷ 116 ∷ 104 ∷ 58 ∷ 32 ∷ 48 ∷ 49 ∷ 13 ∷ 10 ∷ 13 ∷ 10 ∷ 98 ∷ [])) ∷ trace_012_03)
+    ≡ trace_012_04
+unfolding settled head_text digits date_at count_off is_name_byte trimmed front_length whole_head host_fits head_of verdict_of target_of framed is_utf8 chars encode
+trace_012-04-settled = refl
+
+trace_012-05-next : next_job (trace_012_04)
+    ≡ (Some (job.Service 0))
+unfolding head_text digits date_at count_off is_name_byte
+trace_012-05-next = refl
+
+trace_012-06-settled : settled trace_012_limits trace_012_rules 0 ((0, called call.Start None) ∷ trace_012_05)
+    ≡ trace_012_06
+unfolding settled head_text digits date_at count_off is_name_byte trimmed front_length whole_head host_fits head_of verdict_of target_of framed is_utf8 chars encode
+trace_012-06-settled = refl
+
+trace_012-07-settled : settled trace_012_limits trace_012_rules 0 ((0, end_given) ∷ trace_012_06)
+    ≡ trace_012_07
+unfolding settled head_text digits date_at count_off is_name_byte trimmed front_length whole_head host_fits head_of verdict_of target_of framed is_utf8 chars encode
+trace_012-07-settled = refl
+
+trace_012-08-settled : settled trace_012_limits trace_012_rules 0 ((0, end_given) ∷ trace_012_07)
+    ≡ trace_012_08
+unfolding settled head_text digits date_at count_off is_name_byte trimmed front_length whole_head host_fits head_of verdict_of target_of framed is_utf8 chars encode
+trace_012-08-settled = refl
+
+trace_012-09-settled : settled trace_012_limits trace_012_rules 0 ((0, listened 63) ∷ trace_012_08)
+    ≡ trace_012_09
+unfolding settled head_text digits date_at count_off is_name_byte trimmed front_length whole_head host_fits head_of verdict_of target_of framed is_utf8 chars encode
+trace_012-09-settled = refl
+
+trace_012-10-settled : settled trace_012_limits trace_012_rules 0 ((0, end_given) ∷ trace_012_09)
+    ≡ trace_012_10
+unfolding settled head_text digits date_at count_off is_name_byte trimmed front_length whole_head host_fits head_of verdict_of target_of framed is_utf8 chars encode
+trace_012-10-settled = refl
+
+trace_012-11-tick : tick_move trace_012_limits 2 trace_012_10
+    ≡ None
+unfolding head_text digits date_at count_off is_name_byte
+trace_012-11-tick = refl
+
+trace_012-12-settled : settled trace_012_limits trace_012_rules 2 ((2, end_given) ∷ trace_012_10)
+    ≡ trace_012_12
+unfolding settled head_text digits date_at count_off is_name_byte trimmed front_length whole_head host_fits head_of verdict_of target_of framed is_utf8 chars encode
+trace_012-12-settled = refl
+
+trace_012-13-settled : settled trace_012_limits trace_012_rules 2 ((2, called call.Fault None) ∷ (2, broken) ∷ (2, caused cause.Shut) ∷ trace_012_12)
+    ≡ trace_012_13
+unfolding settled head_text digits date_at count_off is_name_byte trimmed front_length whole_head host_fits head_of verdict_of target_of framed is_utf8 chars encode
+trace_012-13-settled = refl
+
+trace_012-14-settled : settled trace_012_limits trace_012_rules 2 ((2, called call.Return None) ∷ (2, back) ∷ trace_012_13)
+    ≡ trace_012_14
+unfolding settled head_text digits date_at count_off is_name_byte trimmed front_length whole_head host_fits head_of verdict_of target_of framed is_utf8 chars encode
+trace_012-14-settled = refl
+
+trace_012-16-next : next_job (trace_012_15)
+    ≡ (Some (job.OnError 0 63))
+unfolding head_text digits date_at count_off is_name_byte
+trace_012-16-next = refl
+
+trace_012-17-settled : settled trace_012_limits trace_012_rules 2 ((2, back) ∷ trace_012_16)
+    ≡ trace_012_17
+unfolding settled head_text digits date_at count_off is_name_byte trimmed front_length whole_head host_fits head_of verdict_of target_of framed is_utf8 chars encode
+trace_012-17-settled = refl
+
+trace_012-18-tick : tick_move trace_012_limits 2 trace_012_17
+    ≡ None
+unfolding head_text digits date_at count_off is_name_byte
+trace_012-18-tick = refl
+
+trace_012-19-tick : tick_move trace_012_limits 4 trace_012_17
+    ≡ None
+unfolding head_text digits date_at count_off is_name_byte
+trace_012-19-tick = refl
+
+trace_012-20-tick : tick_move trace_012_limits 4 trace_012_17
+    ≡ None
+unfolding head_text digits date_at count_off is_name_byte
+trace_012-20-tick = refl
+
+abbrev trace_014_limits : Limits
+trace_014_limits = record { max_connections = 256; max_head = 8192; max_fields = 100; max_keep_alive = pos 100; connection_timeout = 20000; async_timeout = 30000; max_swallow = 2097152; max_trailer = 8192; parts = 0 }
+
+abbrev trace_014_rules : List Rule
+trace_014_rules = []
+
+abbrev trace_014_01 : Trace
+trace_014_01 = (0, opened) ∷ []
+
+abbrev trace_014_03 : Trace
+trace_014_03 = (0, over) ∷ (0, error_answer 404) ∷ (0, began (record { place = 0; size = 46; head = record { method = (codes "PUT"); target = (codes "/"); minor = 1; fields = record { name = (codes "Host"); value = [] } ∷ record { name = (codes "Content-Length"); value = (codes "50") } ∷ [] }; framing = (framing.Length 50); max_trailer = 8192; async_timeout = 30000; part = 0; can_async = false; keep = true; go_on = false })) ∷ (0, came (codes "PUT / HTTP/1.1\r\nHost: \r\nContent-Length: 50\r\n\r\nxzydxaadaxbdaccayxdacyxxadyaxddczzzddxyyccbzdbxazd")) ∷ trace_014_01
+
+abbrev trace_014_04 : Trace
+trace_014_04 = (0, sent 100) ∷ trace_014_03
+
+abbrev trace_014_05 : Trace
+trace_014_05 = (0, caused cause.Refused) ∷ (0, refused 501 true) ∷ (0, came (codes "HEAD /a HTTP/1.1\r\nX: llllllllllllllllllllllllllllllllllllllll\r\nCookie: x=1; y=2\r\nTransfer-Encoding: chunked\r\nConnection: x, Close\r\nHost: a.b%41\r\n\r\n0;last\r\n\r\n")) ∷ trace_014_04
+
+abbrev trace_014_06 : Trace
+trace_014_06 = (0, sent 129) ∷ trace_014_05
+
+trace_014-connection : connection_told trace_014_06
+    ≡ record {
+      came = 253;
+      consumed = 96;
+      room = 16227;
+      has_ended = false;
+      cause = (Some cause.Refused);
+      is_broken = false;
+      is_gone = true;
+      is_open = false;
+      begun = 1;
+      output = (codes "HTTP/1.1 404 \r\nContent-Type: text/plain\r\nContent-Length: 10\r\nDate: Thu, 01 Jan 1970 00:00:00 GMT\r\n\r\nError 404\nHTTP/1.1 501 \r\nContent-Type: text/plain\r\nContent-Length: 10\r\nDate: Thu, 01 Jan 1970 00:00:00 GMT\r\nConnection: close\r\n\r\n");
+      took = 229;
+      unsent = 0;
+      idle_since = 0;
+      next_job = None;
+      charts = ([]) ∷ [];
+    }
+unfolding head_text digits date_at count_off is_name_byte
+trace_014-connection = refl
+
+trace_014-01-settled : settled trace_014_limits trace_014_rules 0 ((0, opened) ∷ [])
+    ≡ trace_014_01
+unfolding settled head_text digits date_at count_off is_name_byte trimmed front_length whole_head host_fits head_of verdict_of target_of framed is_utf8 chars encode
+trace_014-01-settled = refl
+
+trace_014-04-settled : settled trace_014_limits trace_014_rules 0 ((0, sent 100) ∷ trace_014_03)
+    ≡ trace_014_04
+unfolding settled head_text digits date_at count_off is_name_byte trimmed front_length whole_head host_fits head_of verdict_of target_of framed is_utf8 chars encode
+trace_014-04-settled = refl
+
+trace_014-05-settled : settled trace_014_limits trace_014_rules 0 ((0, came (codes "HEAD /a HTTP/1.1\r\nX: llllllllllllllllllllllllllllllllllllllll\r\nCookie: x=1; y=2\r\nTransfer-Encoding: chunked\r\nConnection: x, Close\r\nHost: a.b%41\r\n\r\n0;last\r\n\r\n")) ∷ trace_014_04)
+    ≡ trace_014_05
+unfolding settled head_text digits date_at count_off is_name_byte trimmed front_length whole_head host_fits head_of verdict_of target_of framed is_utf8 chars encode
+trace_014-05-settled = refl
+
+trace_014-06-settled : settled trace_014_limits trace_014_rules 0 ((0, sent 129) ∷ trace_014_05)
+    ≡ trace_014_06
+unfolding settled head_text digits date_at count_off is_name_byte trimmed front_length whole_head host_fits head_of verdict_of target_of framed is_utf8 chars encode
+trace_014-06-settled = refl
