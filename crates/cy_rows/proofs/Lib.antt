@@ -11,3 +11,5 @@ pub mod Traces08Rows
 pub mod Traces09Rows
 pub mod Traces10Rows
 pub mod StateTableRows
+pub mod VerdictRows
+pub mod RefusalRows
