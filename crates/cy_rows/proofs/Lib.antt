@@ -13,3 +13,5 @@ pub mod Traces10Rows
 pub mod StateTableRows
 pub mod VerdictRows
 pub mod RefusalRows
+pub mod LimitRows
+pub mod TakesRows
