@@ -15,3 +15,5 @@ pub mod VerdictRows
 pub mod RefusalRows
 pub mod LimitRows
 pub mod TakesRows
+pub mod SwallowRows
+pub mod TickRows
