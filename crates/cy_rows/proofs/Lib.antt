@@ -17,3 +17,8 @@ pub mod LimitRows
 pub mod TakesRows
 pub mod SwallowRows
 pub mod TickRows
+pub mod ConstantRows
+pub mod NameRows
+pub mod ClosedRows
+pub mod JobRows
+pub mod MoveRows
