@@ -22,3 +22,5 @@ pub mod NameRows
 pub mod ClosedRows
 pub mod JobRows
 pub mod MoveRows
+pub mod WorkedRows
+pub mod WorkedAsyncRows

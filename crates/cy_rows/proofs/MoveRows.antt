@@ -29,8 +29,12 @@ unfoldable answers_on_literals : ⊤
 unfolding head_text date_at count_off digits
 answers_on_literals = tt
 
+unfoldable reading_on_literals : ⊤
+unfolding bodies_on_literals framings_on_literals targets_on_literals heads_on_literals
+reading_on_literals = tt
+
 unfoldable moves_on_literals : ⊤
-unfolding settled verdict_of bodies_on_literals framings_on_literals targets_on_literals heads_on_literals answers_on_literals
+unfolding settled verdict_of reading_on_literals answers_on_literals
 moves_on_literals = tt
 
 -- ---- a request with a body in chunks, and its states
