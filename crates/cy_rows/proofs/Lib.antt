@@ -24,3 +24,4 @@ pub mod JobRows
 pub mod MoveRows
 pub mod WorkedRows
 pub mod WorkedAsyncRows
+pub mod WorkedWaitRows
