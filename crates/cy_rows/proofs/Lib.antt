@@ -25,3 +25,5 @@ pub mod MoveRows
 pub mod WorkedRows
 pub mod WorkedAsyncRows
 pub mod WorkedWaitRows
+pub mod PathRows
+pub mod ShapeRows
