@@ -1,6 +1,6 @@
 -- Each constant as the number or the text that it is, and which bytes each sort of text may have. Written down by
 -- hand.
-use Rattle.std.proofs.Common.{◌≡◌, ℕ, zero, suc, ◌+◌, ◌++◌, Bool, true, List, [], ◌∷◌, Some, None, codes, refl}
+use Rattle.std.proofs.Common.{◌≡◌, ℕ, zero, suc, ◌+◌, ◌++◌, Bool, List, [], ◌∷◌, None, codes, refl}
 use Rattle.std.specs.Prelude.{filter, map, pos}
 use Rattle.std.specs.Fmt.{digits}
 use Rattle.cy_event.specs.declared.body.TheConstants.{GREATEST_CHUNK, GREATEST_LINE, MOST_DIGITS}

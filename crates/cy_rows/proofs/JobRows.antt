@@ -1,5 +1,5 @@
 -- Which callback is next: each of the four rules, and each before those behind it. Written down by hand.
-use Rattle.std.proofs.Common.{◌≡◌, ℕ, Bool, true, false, List, [], ◌∷◌, ◌++◌, Option, Some, None, codes, refl, replicate}
+use Rattle.std.proofs.Common.{◌≡◌, ℕ, Bool, true, false, List, [], ◌∷◌, Option, Some, None, codes, refl, replicate}
 use Rattle.std.specs.Prelude.{map}
 use Rattle.cy_event.specs.declared.framing.Framing.{Framing}
 use Rattle.cy_event.specs.declared.framing.Framing.TheVariants as framing
@@ -11,14 +11,14 @@ use Rattle.cy_event.specs.declared.steps.Job.TheVariants as job
 use Rattle.cy_event.specs.declared.steps.State.{State}
 use Rattle.cy_event.specs.declared.steps.State.TheVariants as state
 use Rattle.cy_event.specs.AnswerModes.{Asked}
-use Rattle.cy_event.specs.Answering.{Answering, beginning, with_length}
+use Rattle.cy_event.specs.Answering.{Answering, beginning}
 use Rattle.cy_event.specs.Bodies.{bodies_on_literals}
 use Rattle.cy_event.specs.Callbacks.{ends_by_call, is_owed_to_listener, makes_calls}
 use Rattle.cy_event.specs.ReadyListeners.{ReadyListeners, after_begun, input_not_ready, next_listener, no_listeners}
 use Rattle.cy_event.specs.ReadyListeners.{output_not_ready, with_read_listener, with_write_listener}
-use Rattle.cy_model.specs.Folds.{Parked, callback_of, running}
+use Rattle.cy_model.specs.Folds.{callback_of, running}
 use Rattle.cy_model.specs.Jobs.{Asking, is_writable_by, job_by, job_owed, next_job}
-use Rattle.cy_model.specs.Marks.{Mark, Side, Trace, back, began, called, came, caused, end_given, given, input_side}
+use Rattle.cy_model.specs.Marks.{Mark, Side, Trace, back, began, called, came, caused, given, input_side}
 use Rattle.cy_model.specs.Marks.{not_ready, opened, output_side, over, parked, read_listener_set, started}
 use Rattle.cy_model.specs.Marks.{write_listener_set}
 

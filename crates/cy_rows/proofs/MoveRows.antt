@@ -1,6 +1,6 @@
 -- What the container does by itself: each of its moves, each before those behind it, and what they come to. Written
 -- down by hand.
-use Rattle.std.proofs.Common.{◌≡◌, ℕ, Bool, true, false, List, [], ◌∷◌, ◌++◌, Some, None, codes, refl, replicate}
+use Rattle.std.proofs.Common.{◌≡◌, ℕ, true, false, List, [], ◌∷◌, ◌++◌, Some, None, codes, refl}
 use Rattle.std.specs.Prelude.{⊤, map, pos}
 use Rattle.std.specs.Fmt.{digits}
 use Rattle.cy_event.specs.declared.framing.Framing.{Framing}
@@ -8,7 +8,6 @@ use Rattle.cy_event.specs.declared.framing.Framing.TheVariants as framing
 use Rattle.cy_event.specs.declared.limits.Limits.{Limits}
 use Rattle.cy_event.specs.declared.steps.Call.{Call}
 use Rattle.cy_event.specs.declared.steps.Call.TheVariants as call
-use Rattle.cy_event.specs.declared.steps.CloseCause.{CloseCause}
 use Rattle.cy_event.specs.declared.steps.CloseCause.TheVariants as cause
 use Rattle.cy_event.specs.declared.steps.Job.TheVariants as job
 use Rattle.cy_event.specs.Answers.{head_text}
@@ -20,7 +19,7 @@ use Rattle.cy_event.specs.Limits.{standard}
 use Rattle.cy_event.specs.Targets.{targets_on_literals}
 use Rattle.cy_map.specs.declared.rule.Rule.{Rule}
 use Rattle.cy_model.specs.Marks.{Mark, TakenUp, Trace, aborted, began, called, came, caused, ended, error_answer, flushed}
-use Rattle.cy_model.specs.Marks.{input_side, listened, opened, over, parked, refused, sent, started}
+use Rattle.cy_model.specs.Marks.{input_side, listened, opened, over, parked, refused, started}
 use Rattle.cy_model.specs.Settling.{Move, next_move, settled}
 use Rattle.cy_model.specs.Verdicts.{verdict_of}
 

@@ -1,6 +1,6 @@
 -- The names that a report has for states, calls, causes, callbacks and replies, and which replies are refusals.
 -- Written down by hand.
-use Rattle.std.proofs.Common.{◌≡◌, ℕ, true, false, List, [], ◌∷◌, Some, None, codes, refl}
+use Rattle.std.proofs.Common.{◌≡◌, true, false, List, [], ◌∷◌, Some, None, codes, refl}
 use Rattle.std.specs.Prelude.{filter, map}
 use Rattle.std.specs.Fmt.{digits}
 use Rattle.cy_event.specs.declared.steps.Call.TheVariants as call

@@ -221,7 +221,10 @@ closed_behind = refl
 abbrev off : Answering → Answering
 off a = record a { sending = aborted a.sending }
 
-nothing_behind : sends (flushed (written (codes "cd") (off (flushed (written (codes "ab") (begun (asks 1 false true)))))))
+abbrev flushed_ab : Answering
+flushed_ab = flushed (written (codes "ab") (begun (asks 1 false true)))
+
+nothing_behind : sends (flushed (written (codes "cd") (off flushed_ab)))
     ≡ head_with (codes "200") in_chunks [] ++ codes "2\r\nab\r\n"
 unfolding head_text date_at count_off digits
 nothing_behind = refl

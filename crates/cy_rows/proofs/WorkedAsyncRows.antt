@@ -11,11 +11,9 @@ use Rattle.cy_event.specs.declared.steps.CloseCause.TheVariants as cause
 use Rattle.cy_event.specs.declared.steps.Job.{Job}
 use Rattle.cy_event.specs.declared.steps.Job.TheVariants as job
 use Rattle.cy_event.specs.declared.steps.State.TheVariants as state
-use Rattle.cy_event.specs.declared.table.ChartItem.TheVariants.{One, Cycles}
 use Rattle.cy_event.specs.declared.table.Row.TheVariants.{On, Wake}
 use Rattle.cy_event.specs.Answers.{head_text}
 use Rattle.cy_event.specs.Bodies.{bodies_on_literals}
-use Rattle.cy_event.specs.Charts.{chart_of}
 use Rattle.cy_event.specs.Dates.{count_off, date_at}
 use Rattle.cy_event.specs.Framings.{framings_on_literals}
 use Rattle.cy_event.specs.Heads.{Field, heads_on_literals}
@@ -23,11 +21,10 @@ use Rattle.cy_event.specs.Limits.{standard}
 use Rattle.cy_event.specs.Table.{row}
 use Rattle.cy_event.specs.Targets.{targets_on_literals}
 use Rattle.cy_map.specs.declared.rule.Rule.{Rule}
-use Rattle.cy_model.specs.Folds.{cause_of, charts, running, state_of}
-use Rattle.cy_model.specs.Inputs.{waiting}
-use Rattle.cy_model.specs.Jobs.{is_readable, next_job}
-use Rattle.cy_model.specs.Marks.{Mark, TakenUp, Trace, back, began, called, came, caused, ended, error_answer, given}
-use Rattle.cy_model.specs.Marks.{input_side, listened, not_ready, opened, over, parked, put, read_listener_set, sent}
+use Rattle.cy_model.specs.Folds.{charts, state_of}
+use Rattle.cy_model.specs.Jobs.{next_job}
+use Rattle.cy_model.specs.Marks.{Mark, TakenUp, Trace, back, began, called, came, caused, ended, error_answer}
+use Rattle.cy_model.specs.Marks.{listened, opened, over, put, sent}
 use Rattle.cy_model.specs.Marks.{started, timeout_set}
 use Rattle.cy_model.specs.Outputs.{is_gone, output, took}
 use Rattle.cy_model.specs.Settling.{settled, with_marks}

@@ -5,7 +5,6 @@ use Rattle.std.specs.Prelude.{⊤, map, pos, take}
 use Rattle.std.specs.Fmt.{digits}
 use Rattle.cy_event.specs.declared.framing.Framing.{Framing}
 use Rattle.cy_event.specs.declared.framing.Framing.TheVariants as framing
-use Rattle.cy_event.specs.declared.limits.Limits.{Limits}
 use Rattle.cy_event.specs.declared.steps.Call.{Call}
 use Rattle.cy_event.specs.declared.steps.Call.TheVariants as call
 use Rattle.cy_event.specs.declared.steps.CloseCause.TheVariants as cause
@@ -22,14 +21,13 @@ use Rattle.cy_event.specs.Limits.{standard}
 use Rattle.cy_event.specs.Table.{row}
 use Rattle.cy_event.specs.Targets.{targets_on_literals}
 use Rattle.cy_map.specs.declared.rule.Rule.{Rule}
-use Rattle.cy_map.specs.Mapping.{mapped}
 use Rattle.cy_model.specs.Endings.{end_marks, failure_marks}
 use Rattle.cy_model.specs.Entries.{is_closed_to, sent_of}
-use Rattle.cy_model.specs.Folds.{cause_of, charts, is_open, running, state_of}
+use Rattle.cy_model.specs.Folds.{cause_of, charts, running, state_of}
 use Rattle.cy_model.specs.Inputs.{consumed, has_whole_body, used, waiting}
 use Rattle.cy_model.specs.Jobs.{next_job, takes_one}
-use Rattle.cy_model.specs.Marks.{Mark, TakenUp, Trace, aborted, back, began, called, came, caused, end_given, ended}
-use Rattle.cy_model.specs.Marks.{error_answer, flushed, given, input_side, length_set, opened, over, parked, put, sent}
+use Rattle.cy_model.specs.Marks.{Mark, TakenUp, Trace, aborted, back, began, called, came, caused, end_given}
+use Rattle.cy_model.specs.Marks.{error_answer, flushed, given, length_set, opened, over, put, sent}
 use Rattle.cy_model.specs.Marks.{started}
 use Rattle.cy_model.specs.Outputs.{is_gone, output, sending_of, took, unsent}
 use Rattle.cy_model.specs.Settling.{settled, with_marks}
