@@ -27,3 +27,4 @@ pub mod WorkedAsyncRows
 pub mod WorkedWaitRows
 pub mod PathRows
 pub mod ShapeRows
+pub mod ReplyRows

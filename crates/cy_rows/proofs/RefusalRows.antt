@@ -198,3 +198,11 @@ refused_closes = refl
 
 refused_leaves_none : request_of turned ≡ None
 refused_leaves_none = refl
+
+-- a body where no rule serves the path: the head is refused, and no request begins
+abbrev post : List ℕ
+post = codes "POST / HTTP/1.1\r\nHost: a\r\nContent-Length: 0\r\n\r\n"
+
+unserved_body_is_refused : came_to [] post ≡ refused_as 501 false post
+unfolding words_on_literals
+unserved_body_is_refused = refl
