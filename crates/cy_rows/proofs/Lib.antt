@@ -28,3 +28,5 @@ pub mod WorkedWaitRows
 pub mod PathRows
 pub mod ShapeRows
 pub mod ReplyRows
+pub mod WorkedRunRows
+pub mod GrammarRows

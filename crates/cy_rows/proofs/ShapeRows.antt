@@ -234,3 +234,21 @@ length_of_an_error : map (λ n. length_reply n (with_error 500 (beginning (asks 
     ≡ reply.BadValue ∷ reply.Done ∷ []
 unfolding digits
 length_of_an_error = refl
+
+-- the date is that of the first cut, or of the end where nothing was cut before
+abbrev dated : List ℕ → List ℕ → List ℕ
+dated framing seconds =
+    codes "HTTP/1.1 200 \r\n" ++ framing ++ codes "Date: Thu, 01 Jan 1970 00:00:" ++ seconds ++ codes " GMT\r\n\r\n"
+
+date_of_the_end : (after_finish fresh_answer 5000 (written (codes "abcde") (begun (asks 1 false true)))).output
+    ≡ dated length_5 (codes "05") ++ codes "abcde"
+unfolding head_text date_at count_off digits
+date_of_the_end = refl
+
+abbrev cut_at_2000 : Answering
+cut_at_2000 = after_flush fresh_answer 2000 (begun (asks 1 false true))
+
+date_of_the_first_cut : (after_finish fresh_answer 5000 cut_at_2000).output
+    ≡ dated in_chunks (codes "02") ++ codes "0\r\n\r\n"
+unfolding head_text date_at count_off digits
+date_of_the_first_cut = refl
