@@ -1,11 +1,11 @@
 -- How bodies are framed by their fields, and which texts are heads and bodies, line by line. Written down by hand.
-use Rattle.std.proofs.Common.{◌≡◌, ℕ, Bool, true, false, List, [], ◌∷◌, ◌++◌, Option, Some, None, Ok, Err, Result, codes, refl}
+use Rattle.std.proofs.Common.{◌≡◌, ℕ, List, [], ◌∷◌, ◌++◌, Ok, Err, Result, codes, refl}
 use Rattle.std.specs.Prelude.{map}
 use Rattle.cy_event.specs.declared.framing.Framing.{Framing}
 use Rattle.cy_event.specs.declared.framing.Framing.TheVariants as framing
 use Rattle.cy_event.specs.Bodies.{Body, bad, bodies_on_literals, body_of, malformed_at, partial, whole}
 use Rattle.cy_event.specs.Framings.{body_framing, framings_on_literals}
-use Rattle.cy_event.specs.Heads.{Field, Front, Head, awaited, found, head_of, heads_on_literals, malformed}
+use Rattle.cy_event.specs.Heads.{Field, Front, awaited, found, head_of, heads_on_literals, malformed}
 
 -- ---- the framing of a body, by the lines of the two fields
 

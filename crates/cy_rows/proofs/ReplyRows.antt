@@ -1,6 +1,6 @@
 -- What steps are answered, each reply before those behind it, and how many connections are counted. Written down by
 -- hand.
-use Rattle.std.proofs.Common.{◌≡◌, ℕ, Bool, true, false, List, [], ◌∷◌, ◌++◌, Some, None, codes, refl, replicate}
+use Rattle.std.proofs.Common.{◌≡◌, ℕ, true, false, List, [], ◌∷◌, None, codes, refl, replicate}
 use Rattle.std.specs.Prelude.{⊤, map, reverse}
 use Rattle.std.specs.Fmt.{digits}
 use Rattle.cy_event.specs.declared.framing.Framing.TheVariants as framing
@@ -23,7 +23,7 @@ use Rattle.cy_event.specs.Limits.{standard}
 use Rattle.cy_event.specs.Targets.{targets_on_literals}
 use Rattle.cy_map.specs.declared.rule.Rule.{Rule}
 use Rattle.cy_model.specs.Connections.{connections, counted, moment, replies}
-use Rattle.cy_model.specs.Entries.{Entry, after, on_act, on_event, on_run, opening, reply_to, tick}
+use Rattle.cy_model.specs.Entries.{after, on_act, on_event, on_run, reply_to, tick}
 use Rattle.cy_model.specs.Marks.{Mark, Trace, back, began, broken, called, came, caused, ended, opened, over, put, refused}
 use Rattle.cy_model.specs.Marks.{sent, started}
 use Rattle.cy_model.specs.Settling.{settled, with_marks}

@@ -18,9 +18,8 @@ use Rattle.cy_event.specs.Heads.{Field, heads_on_literals}
 use Rattle.cy_event.specs.Limits.{standard}
 use Rattle.cy_event.specs.Targets.{targets_on_literals}
 use Rattle.cy_map.specs.declared.rule.Rule.{Rule}
-use Rattle.cy_model.specs.Endings.{end_marks}
 use Rattle.cy_model.specs.Folds.{begun_count, bytes_of, cause_of, charts, idle_since, request_of}
-use Rattle.cy_model.specs.Inputs.{consumed, room, unread, waiting}
+use Rattle.cy_model.specs.Inputs.{consumed, room, waiting}
 use Rattle.cy_model.specs.Jobs.{next_job}
 use Rattle.cy_model.specs.Marks.{Mark, TakenUp, Trace, back, began, called, came, ended, given, opened, over, put, sent}
 use Rattle.cy_model.specs.Marks.{started}
