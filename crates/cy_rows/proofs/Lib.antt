@@ -30,3 +30,5 @@ pub mod ShapeRows
 pub mod ReplyRows
 pub mod WorkedRunRows
 pub mod GrammarRows
+pub mod PieceRows
+pub mod HistoryRows
