@@ -149,19 +149,8 @@ def state(name):
 
 # ---- the values
 
-def filled(items, sep, width=112):
-    """The items on as few lines as they fit, with `sep` behind each but the last of a line."""
-    lines = [""]
-    for item in items:
-        if lines[-1] and len(lines[-1]) + len(sep) + len(item) > width:
-            lines.append("")
-        lines[-1] += (sep + " " if lines[-1] else "") + item
-    return lines
-
-
 def record(**fields):
-    lines = filled([f"{name} = {value}" for name, value in fields.items()], ";")
-    return ["record {", *[f"  {line};" for line in lines], "}"]
+    return ["record {", *[f"  {name} = {value};" for name, value in fields.items()], "}"]
 
 
 def connection_told(folds):
