@@ -10,3 +10,4 @@ pub mod Traces07Rows
 pub mod Traces08Rows
 pub mod Traces09Rows
 pub mod Traces10Rows
+pub mod OutputWaits
