@@ -149,19 +149,8 @@ def state(name):
 
 # ---- the values
 
-def filled(items, sep, width=112):
-    """The items on as few lines as they fit, with `sep` behind each but the last of a line."""
-    lines = [""]
-    for item in items:
-        if lines[-1] and len(lines[-1]) + len(sep) + len(item) > width:
-            lines.append("")
-        lines[-1] += (sep + " " if lines[-1] else "") + item
-    return lines
-
-
 def record(**fields):
-    lines = filled([f"{name} = {value}" for name, value in fields.items()], ";")
-    return ["record {", *[f"  {line};" for line in lines], "}"]
+    return ["record {", *[f"  {name} = {value};" for name, value in fields.items()], "}"]
 
 
 def connection_told(folds):
@@ -344,12 +333,32 @@ def row(number, trace):
     return "\n".join(lines)
 
 
+def is_in(name, text):
+    """Whether a text has the name, and not as that of a field; of an operator, its sign."""
+    sign = name.strip("◌")
+    return sign in text if not sign[0].isalpha() else re.search(rf"(?<![\w-]){sign}(?![\w-]| =)", text) is not None
+
+
+def header(text):
+    """The lines of `HEADER`, with those of their names that the text has."""
+    lines = []
+    for line in HEADER.splitlines():
+        start, brace, names = line.partition("{")
+        names = [name for name in names.rstrip("}").split(", ") if name and is_in(name, text)]
+        if brace and names:
+            lines.append(start + "{" + ", ".join(names) + "}")
+        elif not brace and (" as " not in line or is_in(line.split(" as ")[1], text)):
+            lines.append(line)
+    return "\n".join(lines) + "\n"
+
+
 def made():
     """The text of each file of rows, by its path."""
     traces = sorted(TRACES.glob("trace_*.json"))
     for first in range(0, len(traces), EACH):
         rows = [row(int(path.stem[6:]), json.loads(path.read_text("utf-8"))) for path in traces[first:first + EACH]]
-        yield PROOFS / f"Traces{first // EACH:02}Rows.antt", HEADER + "\n" + "\n".join(rows)
+        text = "\n".join(rows)
+        yield PROOFS / f"Traces{first // EACH:02}Rows.antt", header(text) + "\n" + text
 
 
 def main(write):

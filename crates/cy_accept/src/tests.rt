@@ -17,13 +17,10 @@ fn silent(alloc: Global) -> MemLink {
 }
 
 /// A word for what a step answers; the share of a connection that came is kept.
-fn word_of<L>(step: Step1<L>, shares: &mut Vec<Share>) -> Result<&'static str, Fail>
-where
-    L: Drop,
-{
+fn word_of(step: Step1<MemLink>, shares: &mut Vec<Share>) -> Result<&'static str, Fail> {
     match step {
-        Step1::In(_, share) => {
-            shares.push(share).map_err(|_| "no memory")?;
+        Step1::In(_link, share) => {
+            shares.push(share)?;
             Ok("in")
         }
         Step1::NotYet => Ok("not yet"),

@@ -44,6 +44,14 @@ impl Interests {
         Ok(Interests { notes, marks })
     }
 
+    /// How many places there are.
+    #[cfg(test)]
+    pub(crate) fn places(&self) -> usize
+        ensures { result ≡ length self.now }
+    {
+        self.notes.len()
+    }
+
     /// The place waits for these kinds from now on. Or, and then the answer is true, events of one of them are kept for
     /// it: those of these kinds are taken, and it waits for nothing.
     pub fn want(&mut self, place: u32, read: bool, write: bool) -> bool

@@ -2,6 +2,7 @@
 use super::*;
 use cy_link::Ready;
 use std::alloc::Global;
+use std::process::Abort;
 use std::test::Fail;
 
 /// An event: `r` for reading, `w` for writing.
@@ -11,6 +12,18 @@ fn event(place: u32, kinds: &str) -> Ready {
         read: kinds.contains('r'),
         write: kinds.contains('w'),
     }
+}
+
+/// A want of one of the places that there are, for reading and for writing.
+fn want(rt: &impl Abort, interests: &mut Interests, place: u32, read: bool, write: bool) -> bool {
+    assert!(rt; (place as usize) < interests.places());
+    interests.want(place, read, write)
+}
+
+/// Nobody waits for one of the places that there are.
+fn forget(rt: &impl Abort, interests: &mut Interests, place: u32) {
+    assert!(rt; (place as usize) < interests.places());
+    interests.forget(place);
 }
 
 /// The places that these events give.
@@ -27,9 +40,9 @@ fn events_before_between_and_after_a_want(rt: HostRuntime) -> Result<(), Fail> {
     let mut interests = Interests::new(alloc, 2)?;
     // Before: nobody waits, so it is kept, and the want is told of it, once.
     assert!(rt; given(alloc, &mut interests, &[event(1, "r")])?.is_empty());
-    assert!(rt; !interests.want(0, true, true));
-    assert!(rt; interests.want(1, true, false));
-    assert!(rt; !interests.want(1, true, false));
+    assert!(rt; !want(&rt, &mut interests, 0, true, true));
+    assert!(rt; want(&rt, &mut interests, 1, true, false));
+    assert!(rt; !want(&rt, &mut interests, 1, true, false));
     // Between: a kind that isn't wanted is kept, and one that is wanted gives the place, once.
     assert!(rt; given(alloc, &mut interests, &[event(1, "w")])?.is_empty());
     assert_eq!(rt;
@@ -38,10 +51,10 @@ fn events_before_between_and_after_a_want(rt: HostRuntime) -> Result<(), Fail> {
     );
     assert!(rt; given(alloc, &mut interests, &[event(1, "r")])?.is_empty());
     // After: both kinds were kept meanwhile, and are taken one by one.
-    assert!(rt; interests.want(1, false, true));
-    assert!(rt; !interests.want(1, false, true));
-    assert!(rt; interests.want(1, true, true));
-    assert!(rt; !interests.want(1, true, true));
+    assert!(rt; want(&rt, &mut interests, 1, false, true));
+    assert!(rt; !want(&rt, &mut interests, 1, false, true));
+    assert!(rt; want(&rt, &mut interests, 1, true, true));
+    assert!(rt; !want(&rt, &mut interests, 1, true, true));
     Ok(())
 }
 
@@ -52,7 +65,7 @@ fn each_place_is_given_once_in_the_order_of_the_first_wanted_events(
     let alloc = rt.alloc();
     let mut interests = Interests::new(alloc, 4)?;
     for place in [0, 1, 3] {
-        assert!(rt; !interests.want(place, place != 1, place == 1));
+        assert!(rt; !want(&rt, &mut interests, place, place != 1, place == 1));
     }
     let events = [
         event(4, "rw"),
@@ -76,9 +89,9 @@ fn each_place_is_given_once_in_the_order_of_the_first_wanted_events(
         (2, true, false),
         (3, false, true),
     ] {
-        assert!(rt; !interests.want(place, !read, !write), "{place}");
-        assert!(rt; interests.want(place, read, write), "{place}");
-        assert!(rt; !interests.want(place, true, true), "{place}");
+        assert!(rt; !want(&rt, &mut interests, place, !read, !write), "{place}");
+        assert!(rt; want(&rt, &mut interests, place, read, write), "{place}");
+        assert!(rt; !want(&rt, &mut interests, place, true, true), "{place}");
     }
     Ok(())
 }
@@ -87,20 +100,20 @@ fn each_place_is_given_once_in_the_order_of_the_first_wanted_events(
 fn the_newest_want_counts_and_forgetting_drops_all(rt: HostRuntime) -> Result<(), Fail> {
     let alloc = rt.alloc();
     let mut interests = Interests::new(alloc, 2)?;
-    assert!(rt; !interests.want(0, true, false));
-    assert!(rt; !interests.want(0, false, true));
+    assert!(rt; !want(&rt, &mut interests, 0, true, false));
+    assert!(rt; !want(&rt, &mut interests, 0, false, true));
     assert!(rt; given(alloc, &mut interests, &[event(0, "r")])?.is_empty());
     assert_eq!(rt;
         given(alloc, &mut interests, &[event(0, "w")])?.as_slice(),
         [0].as_slice()
     );
-    assert!(rt; !interests.want(0, false, true));
-    interests.forget(0);
-    assert!(rt; !interests.want(0, true, false));
-    interests.forget(0);
+    assert!(rt; !want(&rt, &mut interests, 0, false, true));
+    forget(&rt, &mut interests, 0);
+    assert!(rt; !want(&rt, &mut interests, 0, true, false));
+    forget(&rt, &mut interests, 0);
     assert!(rt; given(alloc, &mut interests, &[event(0, "r"), event(1, "")])?.is_empty());
-    interests.forget(1);
-    assert!(rt; interests.want(0, true, true));
+    forget(&rt, &mut interests, 1);
+    assert!(rt; want(&rt, &mut interests, 0, true, true));
     Ok(())
 }
 

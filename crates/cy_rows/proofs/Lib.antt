@@ -10,6 +10,7 @@ pub mod Traces07Rows
 pub mod Traces08Rows
 pub mod Traces09Rows
 pub mod Traces10Rows
+pub mod OutputWaits
 pub mod StateTableRows
 pub mod VerdictRows
 pub mod RefusalRows

@@ -1,5 +1,5 @@
 -- What each mark changes is computed for it; a callback that begins, for each sort of callback.
-use Rattle.std.proofs.Common.{◌≡◌, ℕ, false, ◌∷◌, refl}
+use Rattle.std.proofs.Common.{◌≡◌, ℕ, false, refl}
 use Rattle.cy_event.specs.declared.steps.Job.{Job}
 use Rattle.cy_event.specs.declared.steps.Job.TheVariants as job
 use Rattle.cy_event.specs.Callbacks.{is_owed_to_listener}

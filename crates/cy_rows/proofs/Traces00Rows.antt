@@ -1,6 +1,6 @@
 -- Traces that another program made, with what it tells of them, computed from the definitions. Made by `cases/rows.py`.
-use Rattle.std.proofs.Common.{◌≡◌, ℕ, true, false, List, [], ◌∷◌, Some, None, codes, refl}
-use Rattle.std.specs.Prelude.{pos, negsuc}
+use Rattle.std.proofs.Common.{◌≡◌, true, false, List, [], ◌∷◌, Some, None, codes, refl}
+use Rattle.std.specs.Prelude.{pos}
 use Rattle.std.specs.Fmt.{digits}
 use Rattle.std.specs.Str.{is_utf8, chars}
 use lib.Utf8.{encode}
@@ -18,7 +18,7 @@ use Rattle.cy_event.specs.Targets.{target_of}
 use Rattle.cy_map.specs.declared.rule.Rule.{Rule}
 use Rattle.cy_model.specs.Endings.{end_marks}
 use Rattle.cy_model.specs.Jobs.{next_job}
-use Rattle.cy_model.specs.Marks.{Trace, input_side, output_side, opened, ended, came, sent, began, refused, called, started, parked, back, given, end_given, listened, timeout_set, read_listener_set, write_listener_set, not_ready, status_set, field_added, length_set, answer_reset, put, flushed, nothing_to_flush, error_answer, aborted, over, caused, broken}
+use Rattle.cy_model.specs.Marks.{Trace, input_side, output_side, opened, ended, came, sent, began, refused, called, started, parked, back, given, end_given, listened, timeout_set, read_listener_set, write_listener_set, field_added, answer_reset, put, flushed, error_answer, over, caused, broken}
 use Rattle.cy_model.specs.Settling.{settled}
 use Rattle.cy_model.specs.Ticks.{tick_move}
 use Rattle.cy_model.specs.Verdicts.{verdict_of}

@@ -1,6 +1,6 @@
--- What each mark changes, of all that is kept of a trace: what is named here and nothing else. Each record is the contract
--- of a public function without a body.
-use Rattle.std.specs.Prelude.{◌≡◌, ℕ, ◌+◌, Bool, true, false, List, [], ◌∷◌, ◌++◌, Option, Some, None}
+-- What each mark changes, of all that is kept of a trace: what is named here and nothing else; and what follows of the
+-- output, and of a request that no rule serves. Each is the contract of a public function without a body.
+use Rattle.std.specs.Prelude.{◌≡◌, ◌≤◌, ℕ, ◌+◌, Bool, true, false, List, [], ◌∷◌, ◌++◌, length, drop, Some, None}
 use Rattle.cy_event.specs.declared.steps.Call.{Call}
 use Rattle.cy_event.specs.declared.steps.CloseCause.{CloseCause}
 use Rattle.cy_event.specs.declared.steps.Job.{Job}
@@ -12,10 +12,12 @@ use Rattle.cy_event.specs.Callbacks.{is_owed_to_listener, no_context, with_liste
 use Rattle.cy_event.specs.Heads.{Field}
 use Rattle.cy_event.specs.ReadyListeners.{after_begun, input_not_ready, no_listeners, output_not_ready, with_read_listener, with_write_listener}
 use Rattle.cy_event.specs.Table.{next_state}
-use Rattle.cy_model.specs.Folds.{after_call_at, after_started, begun_by, callback_of, calls, earlier, cause_of, closing_since, idle_since, moment_of_bytes, moment_of_cause}
+use Rattle.cy_model.specs.Endings.{end_marks}
+use Rattle.cy_model.specs.Folds.{after_call_at, after_started, begun_by, callback_of, calls, earlier, cause_of, closing_since, idle_since, is_broken, moment_of_bytes, moment_of_cause}
 use Rattle.cy_model.specs.Inputs.{used}
 use Rattle.cy_model.specs.Marks.{Mark, Side, TakenUp, Trace, input_side, output_side, opened, ended, came, sent, began, refused, called, started, parked, back, given, end_given, listened, timeout_set, read_listener_set, write_listener_set, not_ready, status_set, field_added, length_set, answer_reset, put, flushed, nothing_to_flush, error_answer, aborted, over, caused, broken}
-use Rattle.cy_model.specs.Outputs.{all_past, answer_of, by_sending, past_by, with_field, with_set_length, with_status, writing}
+use Rattle.cy_model.specs.Outputs.{all_past, answer_of, by_sending, output, past_by, took, unsent, with_field, with_set_length, with_status, writing}
+use Rattle.cy_model.specs.Settling.{due_move, not_found}
 use Rattle.cy_rows.specs.Kept.{Kept, kept}
 
 -- the record after a mark
@@ -156,3 +158,28 @@ pub record AnswerMarks : Type 0 where
       ≡ record (kept T) { answer = error_answer_of n; writing = by_sending (with_error n) (writing T) }
   pub break_off : (t : ℕ) (T : Trace) → kept_with t aborted T
       ≡ record (kept T) { is_aborted = true; writing = by_sending aborted_sending (writing T) }
+
+-- ---- output
+
+-- the socket takes no more than waits for it
+abbrev pub SendsFit : Trace → Type 0
+SendsFit [] = Unit {0}
+SendsFit ((t, sent n) ∷ T) = (n ≤ length (unsent T)) × SendsFit T
+SendsFit ((t, m) ∷ T) = SendsFit T
+
+-- what waits is the output without the bytes that the socket took, until the connection breaks; then nothing waits
+pub record OutputWaits (T : Trace) : Type 0 where
+  pub rest : is_broken T ≡ false → unsent T ≡ drop (took T) (output T)
+  pub dropped : (t : ℕ) → unsent ((t, broken) ∷ T) ≡ []
+
+abbrev pub OutputIsSentInOrder : Type 0
+OutputIsSentInOrder = (T : Trace) → SendsFit T → OutputWaits T
+
+-- ---- ends
+
+-- a request that no rule serves is answered 404 and ends as any other does
+abbrev pub NotFoundEndsAsAny : Type 0
+NotFoundEndsAsAny =
+    (t : ℕ) (r : TakenUp) (T : Trace) → cause_of T ≡ None
+    → due_move (not_found r)
+    ≡ Some (began r ∷ error_answer 404 ∷ end_marks ((t, error_answer 404) ∷ (t, began r) ∷ T))

@@ -1,5 +1,5 @@
 -- What a trace tells of its connection and of its last request, as far as another program tells it too.
-use Rattle.std.specs.Prelude.{ℕ, Bool, List, Option, Some, None, length, if◌then◌else◌}
+use Rattle.std.specs.Prelude.{ℕ, Bool, List, Option, length}
 use Rattle.cy_event.specs.declared.steps.Call.{Call}
 use Rattle.cy_event.specs.declared.steps.CloseCause.{CloseCause}
 use Rattle.cy_event.specs.declared.steps.Job.{Job}

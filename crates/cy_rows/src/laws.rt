@@ -1,5 +1,5 @@
-//! Laws of what each mark changes: a function without parameters and without a body has the law as its contract.
-ghost use Rattle.cy_rows.specs.Laws.{AnswerMarks, CallbackMarks, ConnectionMarks, ListenerMarks, RequestMarks};
+//! Laws of what each mark changes, and what follows: a function without parameters and without a body has the law as its contract.
+ghost use Rattle.cy_rows.specs.Laws.{AnswerMarks, CallbackMarks, ConnectionMarks, ListenerMarks, NotFoundEndsAsAny, OutputIsSentInOrder, RequestMarks};
 
 /// What the socket told, and why the connection closes, changes these and nothing else.
 pub fn connection_marks()
@@ -25,4 +25,15 @@ pub fn listener_marks()
 /// What is put into an answer changes these and nothing else.
 pub fn answer_marks()
     ensures { AnswerMarks }
+{}
+
+/// What waits for the socket is all output without the bytes that it took, and nothing once the connection is broken.
+pub fn output_is_sent_in_order()
+    ensures { OutputIsSentInOrder }
+{}
+
+/// A request that no rule serves is answered 404 and ends as any other does: its connection closes behind the answer just
+/// where that says so.
+pub fn not_found_ends_as_any()
+    ensures { NotFoundEndsAsAny }
 {}

@@ -9,5 +9,7 @@ fn laws_ask_for_nothing(_rt: HostRuntime) -> Result<(), Fail> {
     laws::callback_marks();
     laws::listener_marks();
     laws::answer_marks();
+    laws::output_is_sent_in_order();
+    laws::not_found_ends_as_any();
     Ok(())
 }

@@ -32,21 +32,29 @@ fn begin(alloc: Global, max_keep_alive: i64) -> Result<Course, Fail> {
     })
 }
 
-/// Takes up the heads that are due, and says how the connection stands where none is due and no request is open.
+/// Takes up a head that is due, and says how the connection stands where none is due and no request is open.
+fn open_due(course: &mut Course) -> Option<Standing> {
+    if is_open(&course.line) {
+        return None;
+    }
+    let standing = course.line.settle(0, &course.processor.limits);
+    if standing != Standing::Due {
+        return Some(standing);
+    }
+    course.processor.clear();
+    let _done = course.processor.open(&mut course.line, 0, &course.rules);
+    None
+}
+
+/// Takes up the heads that are due, one after another, and says how the connection stands behind them.
 fn settle(course: &mut Course) -> Option<Standing> {
     for _ in 0..4u32 {
         if course.processor.is_over() {
             course.processor.clear();
         }
-        if is_open(&course.line) {
-            return None;
-        }
-        let standing = course.line.settle(0, &course.processor.limits);
-        if standing != Standing::Due {
+        if let Some(standing) = open_due(course) {
             return Some(standing);
         }
-        course.processor.clear();
-        let _done = course.processor.open(&mut course.line, 0, &course.rules);
     }
     None
 }
@@ -301,10 +309,7 @@ fn a_refused_head_is_no_request(rt: HostRuntime) -> Result<(), Fail> {
         let mut course = begin(rt.alloc(), 100)?;
         assert!(rt; !course.processor.has_request());
         tell(&rt, &mut course, Event::In, head);
-        let standing = course.line.settle(0, &course.processor.limits);
-        assert_eq!(rt; standing, Standing::Due);
-        course.processor.clear();
-        let _done = course.processor.open(&mut course.line, 0, &course.rules);
+        assert_eq!(rt; open_due(&mut course), None);
         assert!(rt; course.processor.is_over());
         assert!(rt; !course.processor.has_request());
         assert!(rt; !course.processor.is_open());
