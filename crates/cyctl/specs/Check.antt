@@ -26,25 +26,25 @@ IsCheck words = map string_bytes words ≡ codes "check" ∷ []
 -- ---- texts
 
 -- a setting, by its name and its value
-abbrev pub setting_line : Values → Setting → List ℕ
-setting_line values setting = name_of setting ++ (codes " " ++ (signed_decimal (value_in values setting) ++ codes "\n"))
+abbrev pub told_setting : Values → Setting → List ℕ
+told_setting values setting = name_of setting ++ (codes " " ++ (signed_decimal (value_in values setting) ++ codes "\n"))
 
 abbrev pub mode_word : Rule → List ℕ
 mode_word rule = if rule.can_async then codes "async" else codes "sync"
 
-abbrev pub rule_line : Rule → List ℕ
-rule_line rule = codes "rule " ++ (rule.pattern ++ (codes " " ++ (decimal rule.part ++ (codes " " ++ (mode_word rule ++ codes "\n")))))
+abbrev pub told_rule : Rule → List ℕ
+told_rule rule = codes "rule " ++ (rule.pattern ++ (codes " " ++ (decimal rule.part ++ (codes " " ++ (mode_word rule ++ codes "\n")))))
 
 -- settings in full: all but the port, and then the rules
 abbrev pub told_text : Values → List ℕ
-told_text values = flat_map (setting_line values) told ++ flat_map rule_line values.rules
+told_text values = flat_map (told_setting values) told ++ flat_map told_rule values.rules
 
 -- why there are none; want of memory has a message of its own
-abbrev pub refusal_text : SetFault → List ℕ
-refusal_text NotToml = codes "refused: not toml\n"
-refusal_text (UnknownKey name) = codes "refused: unknown key " ++ (name ++ codes "\n")
-refusal_text (BadSetting name value) = codes "refused: bad setting " ++ (name ++ (codes " " ++ (value ++ codes "\n")))
-refusal_text NoMemory = no_memory
+abbrev pub fault_text : SetFault → List ℕ
+fault_text NotToml = codes "refused: not toml\n"
+fault_text (UnknownKey name) = codes "refused: unknown key " ++ (name ++ codes "\n")
+fault_text (BadSetting name value) = codes "refused: bad setting " ++ (name ++ (codes " " ++ (value ++ codes "\n")))
+fault_text NoMemory = no_memory
 
 -- ---- inputs
 
@@ -55,15 +55,15 @@ pub record TellsSettings (input text : List ℕ) : Type 0 where
   pub told : text ≡ told_text values
 
 -- the text tells why the input is refused
-pub record TellsRefusal (input text : List ℕ) : Type 0 where
+pub record TellsFault (input text : List ℕ) : Type 0 where
   pub fault : SetFault
   pub means : Means input (Err fault)
-  pub told : text ≡ refusal_text fault
+  pub told : text ≡ fault_text fault
 
 -- what an input came to
 abbrev pub TellsInput : List ℕ → Checked → Type 0
 TellsInput input (checked.Settings text) = TellsSettings input text.items
-TellsInput input (checked.Refused text) = TellsRefusal input text.items
+TellsInput input (checked.Refused text) = TellsFault input text.items
 
 -- the source was read to its end, and this is what all that it had left came to
 abbrev pub IsCheckedSource : Option (List ℕ) → Option (List ℕ) → Checked → Type 0
@@ -92,7 +92,7 @@ pub record IsRefused (left now held holds : Option (List ℕ)) (before after : �
   pub input : List ℕ
   pub text : List ℕ
   pub read : ReadsAll left now input
-  pub tells : TellsRefusal input text
+  pub tells : TellsFault input text
   pub message : Tells held holds before after text
 
 -- settings that are not too large

@@ -1,10 +1,10 @@
 //! Settings are checked: they are read, and told in full or refused.
-ghost use Rattle.std.specs.Prelude.{◌≡◌, ◌≢◌, ◌++◌, ◌<◌, ◌≤◌, ◌↔◌, Err, IfOk, IsTrue, OnErr, OnOk};
+ghost use Rattle.std.specs.Prelude.{◌≡◌, ◌≢◌, ◌++◌, ◌<◌, ◌≤◌, ◌↔◌, Err, IfOk, IsTrue, OnOk};
 ghost use Rattle.std.specs.List.{flat_map};
 ghost use Rattle.cy_link.specs.Causes.{Rose};
 ghost use Rattle.cy_config.specs.Texts.{shown};
-ghost use Rattle.cyctl.specs.Causes.{ReadsAll, WasRead};
-ghost use Rattle.cyctl.specs.Check.{IsCheck, IsChecked, IsCheckedSource, TellsInput, refusal_text, rule_line, setting_line, told_text};
+ghost use Rattle.cyctl.specs.Causes.{WasRead};
+ghost use Rattle.cyctl.specs.Check.{IsCheck, IsChecked, IsCheckedSource, TellsInput, fault_text, told_rule, told_setting, told_text};
 ghost use Rattle.cyctl.specs.declared.input.TheConstants.{GREATEST_INPUT};
 
 use crate::input::read_all;
@@ -42,7 +42,7 @@ fn push_setting(
     settings: &Settings,
     setting: Setting,
 ) -> Result<(), AllocError>
-    ensures { OnOk result (out.new.items ≡ out.old.items ++ setting_line (shown settings.now) setting) }
+    ensures { OnOk result (out.new.items ≡ out.old.items ++ told_setting (shown settings.now) setting) }
 {
     let value = format!(in alloc; "{}", settings.value(setting))?;
     out.extend_from_slice(setting.name().as_bytes())?;
@@ -54,7 +54,7 @@ fn push_setting(
 
 /// Appends a rule.
 fn push_rule(alloc: Global, out: &mut Vec<u8>, rule: &Rule) -> Result<(), AllocError>
-    ensures { OnOk result (out.new.items ≡ out.old.items ++ rule_line rule.now) }
+    ensures { OnOk result (out.new.items ≡ out.old.items ++ told_rule rule.now) }
 {
     let part = format!(in alloc; "{}", rule.part)?;
     let mode: &[u8] = if rule.can_async { b"async" } else { b"sync" };
@@ -84,7 +84,7 @@ fn push_settings(
     settings: &Settings,
     told: &[Setting],
 ) -> Result<(), AllocError>
-    ensures { OnOk result (out.new.items ≡ out.old.items ++ flat_map (setting_line (shown settings.now)) told.now) }
+    ensures { OnOk result (out.new.items ≡ out.old.items ++ flat_map (told_setting (shown settings.now)) told.now) }
 {
     for setting in told {
         push_setting(alloc, out, settings, *setting)?;
@@ -93,7 +93,7 @@ fn push_settings(
 }
 
 fn push_rules(alloc: Global, out: &mut Vec<u8>, rules: &[Rule]) -> Result<(), AllocError>
-    ensures { OnOk result (out.new.items ≡ out.old.items ++ flat_map rule_line rules.now) }
+    ensures { OnOk result (out.new.items ≡ out.old.items ++ flat_map told_rule rules.now) }
 {
     for rule in rules {
         push_rule(alloc, out, rule)?;
@@ -102,8 +102,8 @@ fn push_rules(alloc: Global, out: &mut Vec<u8>, rules: &[Rule]) -> Result<(), Al
 }
 
 /// Why settings are refused, as a line.
-fn refusal_text(alloc: Global, fault: &SetFault) -> Result<Vec<u8>, AllocError>
-    ensures { IfOk result (λ text. text.items ≡ refusal_text fault.now) }
+fn fault_text(alloc: Global, fault: &SetFault) -> Result<Vec<u8>, AllocError>
+    ensures { IfOk result (λ text. text.items ≡ fault_text fault.now) }
 {
     match fault {
         SetFault::NotToml => Vec::from_slice(alloc, b"refused: not toml\n"),
@@ -132,7 +132,7 @@ fn check_input(alloc: Global, input: &[u8]) -> Result<Checked, AllocError>
     match read_settings(alloc, input) {
         Ok(settings) => Ok(Checked::Settings(settings_text(alloc, &settings)?)),
         Err(SetFault::NoMemory) => Err(AllocError),
-        Err(fault) => Ok(Checked::Refused(refusal_text(alloc, &fault)?)),
+        Err(fault) => Ok(Checked::Refused(fault_text(alloc, &fault)?)),
     }
 }
 

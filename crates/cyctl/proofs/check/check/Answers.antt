@@ -1,5 +1,5 @@
 -- A refusal is told, and what is in the form is not refused.
-use Rattle.std.proofs.Common.{◌≡◌, List, ℕ, inl, inr, refl, subst, arith}
+use Rattle.std.proofs.Common.{List, ℕ, inl, inr, refl, subst, arith}
 use Rattle.cyctl.specs.Check.{IsRefused}
 use Rattle.cyctl.specs.Tool.{Tells}
 use Rattle.cyctl.proofs.Checks.{check_completes}
