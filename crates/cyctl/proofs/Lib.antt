@@ -8,3 +8,4 @@ mod Lives
 mod Written
 mod Keeping
 mod Steps
+pub mod Checks

@@ -9,12 +9,12 @@ use Rattle.cyctl.specs.declared.tool.Refusal.TheVariants.{Source, TooLarge, Scri
 use Rattle.cy_link.specs.Causes.{Rose}
 
 -- what was read of known bytes is no longer than they are
-consumed_within : (input bytes : List ℕ) (now : Option (List ℕ)) → Consumes (Some input) now bytes → length bytes ≤ length input
+pub consumed_within : (input bytes : List ℕ) (now : Option (List ℕ)) → Consumes (Some input) now bytes → length bytes ≤ length input
 consumed_within input bytes None c = absurd c
 consumed_within input bytes (Some rest) c = omega (arith, ap length c, length-append bytes rest)
 
 -- known bytes that were read to their end are what was read
-all_consumed : (input bytes : List ℕ) (now : Option (List ℕ)) → ReadsAll (Some input) now bytes → bytes ≡ input
+pub all_consumed : (input bytes : List ℕ) (now : Option (List ℕ)) → ReadsAll (Some input) now bytes → bytes ≡ input
 all_consumed input bytes None r = absurd r.0
 all_consumed input bytes (Some rest) r = sym (r.0 ∙ ap (λ (u : List ℕ). bytes ++ u) r.1 ∙ append-nil bytes)
 

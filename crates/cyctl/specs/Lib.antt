@@ -5,3 +5,4 @@ pub mod Causes
 pub mod Connecting
 pub mod Running
 pub mod Tool
+pub mod Check

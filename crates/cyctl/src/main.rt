@@ -1,7 +1,8 @@
-//! `cyctl` replays a written list of steps of a connector.
+//! `cyctl` replays a written list of steps of a connector, and checks its settings.
 #![tactic(auto)]
 
 mod chart;
+mod check;
 mod connection;
 mod connector;
 mod input;

@@ -6,9 +6,11 @@ ghost use Rattle.cy_script.specs.Kept.{IsScript};
 ghost use Rattle.cyctl.specs.Connecting.{TellsConnections};
 ghost use Rattle.cyctl.specs.declared.tool.Refusal.TheVariants.{NoMemory};
 ghost use Rattle.cyctl.specs.Causes.{ReadsAll, WasRead, WritesFront};
+ghost use Rattle.cyctl.specs.Check.{IsCheck, IsChecked};
 ghost use Rattle.cyctl.specs.Tool.{HasNotRisen, IsInForm, IsOutside, IsReplay, IsReplayStatus, IsTold, Reports, WritesReport, WritesReportFront, Tells, message_of, refusal_for, refusal_of, status_of, no_memory, refused_script, replayed, report_of, source_fault, too_large, usage};
 ghost use Rattle.cyctl.specs.declared.input.TheConstants.{GREATEST_INPUT};
 
+use crate::check::{check, is_check};
 use crate::connector::{Admitted, Connector};
 use crate::input::{InputFault, read_all};
 use crate::output::write_all;
@@ -167,7 +169,7 @@ fn report_source<S: Source>(alloc: Global, source: &mut S) -> Result<Vec<u8>, Re
 }
 
 /// Tells a text, as far as the sink takes it.
-fn tell<K: Sink>(sink: &mut K, text: &[u8])
+pub fn tell<K: Sink>(sink: &mut K, text: &[u8])
     ensures told { Tells (K.held sink.old) (K.held sink.new) (K.faults sink.old) (K.faults sink.new) text.now }
     ensures later { K.faults sink.old ≤ K.faults sink.new }
 {
@@ -207,11 +209,12 @@ fn replay<S: Source, K: Sink>(alloc: Global, source: &mut S, sink: &mut K) -> u8
 
 /// The program: the words are those of the command line without the program's name, and the answer is its status.
 ///
-/// `replay` reads a script from the source to its end and writes its report to the sink. Statuses:
+/// `replay` reads a script from the source to its end and writes its report to the sink. `check` reads settings and
+/// writes them in full. Statuses:
 ///
-/// - 0: the report was written.
+/// - 0: the report, or the settings, were written.
 /// - 2: the words are none of the forms; the usage is told.
-/// - 3: the input is outside the form of a script.
+/// - 3: the input is outside the form of a script, or is no text of settings.
 /// - 4, 5: the source, the sink failed.
 /// - 6: there is no memory.
 /// - 7: the input has more than 67,108,864 bytes.
@@ -224,34 +227,41 @@ pub fn tool<S: Source, K: Sink>(
 ) -> u8
     // The source was read to its end, and the sink got the report of the script that was read: each reply, all answer
     // bytes, the cause and the charts are those that the definitions give to the connection's own steps.
-    ensures report { result ≡ 0 → WritesReport (S.left source.old) (S.left source.new) (K.held sink.old) (K.held sink.new) }
+    ensures report { IsReplay words.now.items → result ≡ 0 → WritesReport (S.left source.old) (S.left source.new) (K.held sink.old) (K.held sink.new) }
 
     // Exactly where the words are none of the forms. Then nothing was read.
-    ensures words { (result ≡ 2) ↔ (IsReplay words.now.items → ⊥) }
+    ensures words { (result ≡ 2) ↔ ((IsReplay words.now.items → ⊥) × (IsCheck words.now.items → ⊥)) }
     ensures usage { result ≡ 2 → Tells (K.held sink.old) (K.held sink.new) (K.faults sink.old) (K.faults sink.new) usage }
     ensures unread { result ≡ 2 → (S.left source.new ≡ S.left source.old) × (S.faults source.new ≡ S.faults source.old) }
 
     // Only where the input, read whole, is outside the form; and where it is, there is no report.
-    ensures outside { result ≡ 3 → IsOutside (S.left source.old) (S.left source.new) }
+    ensures outside { IsReplay words.now.items → result ≡ 3 → IsOutside (S.left source.old) (S.left source.new) }
 
     // Only where a count of faults rose in this call; with 5 a front of the report was written.
     ensures source { result ≡ 4 → Rose (S.faults source.old) (S.faults source.new) }
     ensures sink { result ≡ 5 → Rose (K.faults sink.old) (K.faults sink.new) }
-    ensures front { result ≡ 5 → WritesReportFront (S.left source.old) (S.left source.new) (K.held sink.old) (K.held sink.new) }
+    ensures front { IsReplay words.now.items → result ≡ 5 → WritesReportFront (S.left source.old) (S.left source.new) (K.held sink.old) (K.held sink.new) }
 
     // Exactly where more than the greatest number of bytes were read in this call.
     ensures too_large { result ≡ 7 → WasRead (λ n. GREATEST_INPUT < n) (S.left source.old) (S.left source.new) }
     ensures not_too_large { IsReplay words.now.items → result ≢ 7 → WasRead (λ n. n ≤ GREATEST_INPUT) (S.left source.old) (S.left source.new) }
 
     // With 3, 4, 6 and 7 the message was told; there is no status beside these.
-    ensures told { IsTold (K.held sink.old) (K.held sink.new) (K.faults sink.old) (K.faults sink.new) result }
+    ensures told { IsReplay words.now.items → IsTold (K.held sink.old) (K.held sink.new) (K.faults sink.old) (K.faults sink.new) result }
     ensures only { (result ≡ 2) ⊎ IsReplayStatus result }
 
     // A script of the form is replayed, where neither count rises and memory lasts.
     ensures complete { IsReplay words.now.items → IsInForm (S.left source.old)
         → HasNotRisen (S.faults source.old) (S.faults source.new) → HasNotRisen (K.faults sink.old) (K.faults sink.new)
         → (result ≡ 0) ⊎ (result ≡ 6) }
+
+    // Settings are checked: each status has its cause, and with 0 the sink got the settings that were read.
+    ensures checked { IsCheck words.now.items → IsChecked (S.left source.old) (S.left source.new) (K.held sink.old) (K.held sink.new)
+        (S.faults source.old) (S.faults source.new) (K.faults sink.old) (K.faults sink.new) result }
 {
+    if is_check(words) {
+        return check(alloc, source, sink);
+    }
     if !is_replay(words) {
         tell(sink, USAGE);
         return 2;
