@@ -18,7 +18,7 @@ use Rattle.cyctl.specs.Causes.{ReadsAll, WritesFront}
 
 -- ---- the words
 
--- the only form of words so far
+-- the word
 abbrev pub IsReplay : List (String Global) → Type 0
 IsReplay words = map string_bytes words ≡ codes "replay" ∷ []
 
