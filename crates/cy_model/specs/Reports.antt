@@ -62,6 +62,21 @@ state_name state.Dispatching = codes "DISPATCHING"
 state_name state.MustError = codes "MUST_ERROR"
 state_name state.Error = codes "ERROR"
 
+-- why a step is refused, for each of these replies
+abbrev pub refusal_name : Reply → List ℕ
+refusal_name (reply.Illegal s) = codes "Illegal " ++ state_name s
+refusal_name reply.Unsupported = codes "Unsupported"
+refusal_name reply.AlreadySet = codes "AlreadySet"
+refusal_name reply.Committed = codes "Committed"
+refusal_name reply.BadValue = codes "BadValue"
+refusal_name reply.NotActive = codes "NotActive"
+refusal_name reply.NoConn = codes "NoConn"
+refusal_name reply.NoPass = codes "NoPass"
+refusal_name reply.Ended = codes "Ended"
+refusal_name reply.Closed = codes "Closed"
+refusal_name (reply.TooMany n) = codes "TooMany " ++ decimal n
+refusal_name r = []
+
 -- with these bytes beside it
 unfoldable pub reply_text : Reply → List ℕ → List ℕ
 reply_text reply.Done got = codes "Done"
@@ -76,17 +91,7 @@ reply_text (reply.Ready true) got = codes "Ready true"
 reply_text (reply.Ready false) got = codes "Ready false"
 reply_text (reply.Begun j) got = codes "Begun " ++ job_text j
 reply_text reply.Idle got = codes "Idle"
-reply_text (reply.Illegal s) got = codes "Illegal " ++ state_name s
-reply_text reply.Unsupported got = codes "Unsupported"
-reply_text reply.AlreadySet got = codes "AlreadySet"
-reply_text reply.Committed got = codes "Committed"
-reply_text reply.BadValue got = codes "BadValue"
-reply_text reply.NotActive got = codes "NotActive"
-reply_text reply.NoConn got = codes "NoConn"
-reply_text reply.NoPass got = codes "NoPass"
-reply_text reply.Ended got = codes "Ended"
-reply_text reply.Closed got = codes "Closed"
-reply_text (reply.TooMany n) got = codes "TooMany " ++ decimal n
+reply_text r got = refusal_name r
 
 -- the line of the step of this number
 unfoldable pub reply_line : ℕ → Replied → List ℕ

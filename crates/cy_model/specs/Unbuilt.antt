@@ -31,6 +31,27 @@ is_unbuilt_cause cause.LastAnswer = false
 is_unbuilt_cause cause.InputEnd = false
 is_unbuilt_cause k = true
 
+-- what a callback asks to hear of
+abbrev pub is_unbuilt_asking : Mark → Bool
+is_unbuilt_asking (listened tag) = true
+is_unbuilt_asking (timeout_set ms) = true
+is_unbuilt_asking read_listener_set = true
+is_unbuilt_asking write_listener_set = true
+is_unbuilt_asking (not_ready side) = true
+is_unbuilt_asking m = false
+
+-- of an answer all but its content, and of the error answers all but that of a path which no rule serves
+abbrev pub is_unbuilt_answering : Mark → Bool
+is_unbuilt_answering (status_set status) = true
+is_unbuilt_answering (field_added field) = true
+is_unbuilt_answering (length_set n) = true
+is_unbuilt_answering answer_reset = true
+is_unbuilt_answering flushed = true
+is_unbuilt_answering nothing_to_flush = true
+is_unbuilt_answering (error_answer status) = not (status == not_found_status)
+is_unbuilt_answering aborted = true
+is_unbuilt_answering m = false
+
 abbrev pub is_unbuilt : Mark → Bool
 is_unbuilt (began r) = is_unbuilt_request r
 is_unbuilt (called k part) = is_unbuilt_call k
@@ -38,22 +59,9 @@ is_unbuilt (started j) = is_unbuilt_job j
 is_unbuilt (parked side) = true
 is_unbuilt (given n) = true
 is_unbuilt end_given = true
-is_unbuilt (listened tag) = true
-is_unbuilt (timeout_set ms) = true
-is_unbuilt read_listener_set = true
-is_unbuilt write_listener_set = true
-is_unbuilt (not_ready side) = true
-is_unbuilt (status_set status) = true
-is_unbuilt (field_added field) = true
-is_unbuilt (length_set n) = true
-is_unbuilt answer_reset = true
-is_unbuilt flushed = true
-is_unbuilt nothing_to_flush = true
-is_unbuilt (error_answer status) = not (status == not_found_status)
-is_unbuilt aborted = true
 is_unbuilt (caused k) = is_unbuilt_cause k
 is_unbuilt broken = true
-is_unbuilt m = false
+is_unbuilt m = is_unbuilt_asking m || is_unbuilt_answering m
 
 -- none of them stands in the trace
 abbrev pub NothingUnbuilt : Trace → Type 0

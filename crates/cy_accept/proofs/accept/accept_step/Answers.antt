@@ -1,3 +1,4 @@
+-- What is left to show of `accept_step`.
 use Rattle.std.proofs.Common.{◌∙◌}
 use Rattle.cy_accept.proofs.Again.{left_again}
 use Rattle.cy_accept.proofs.accept.accept_step.Goals as goal

@@ -1,3 +1,4 @@
+-- The law `one_first_fault`, from the lemmas that show it.
 use Rattle.std.proofs.Common.{◌≡◌, Ok, Err}
 use Rattle.cy_bytes.specs.Quoting.{unquoted}
 use Rattle.cy_bytes.proofs.Texts.{spelling_is_read, fault_is_read}

@@ -1,3 +1,4 @@
+-- The law `reading_is_spelling`, from the lemmas that show it.
 use Rattle.cy_bytes.proofs.Texts.{spelling_is_read, read_is_spelling, fault_is_read, read_is_fault}
 use Rattle.cy_bytes.proofs.laws.reading_is_spelling.Goals as goal
 

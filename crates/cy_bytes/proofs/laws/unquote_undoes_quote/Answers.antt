@@ -1,3 +1,4 @@
+-- The law `unquote_undoes_quote`, from the lemmas that show it.
 use Rattle.cy_bytes.specs.Quoting.{quoted}
 use Rattle.cy_bytes.proofs.Texts.{spelling_is_read}
 use Rattle.cy_bytes.proofs.Quoted.{quoted_is_spelling}

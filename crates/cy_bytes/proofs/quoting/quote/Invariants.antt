@@ -1,3 +1,4 @@
+-- What the loops of `quote` keep.
 use Rattle.std.proofs.Common.{◌≡◌, take}
 use Rattle.cy_bytes.specs.Quoting.{quoted}
 use Rattle.cy_bytes.proofs.quoting.quote.Given as goal

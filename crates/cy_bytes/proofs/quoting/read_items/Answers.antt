@@ -1,3 +1,4 @@
+-- What is left to show of `read_items`.
 use Rattle.std.proofs.Common.{sym, arith}
 use Rattle.cy_bytes.proofs.Loop.{goes_on, stops, is_done}
 use Rattle.cy_bytes.proofs.quoting.read_items.Goals as goal

@@ -1,3 +1,4 @@
+-- What the loops of `read_items` keep.
 use Rattle.std.proofs.Common.{◌≡◌, ◌+◌, ◌≤◌, length, vec_len}
 use Rattle.std.specs.Vec.{vec_capacity}
 use Rattle.cy_bytes.proofs.Texts.{read_all, with_front}

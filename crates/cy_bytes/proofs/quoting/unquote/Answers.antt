@@ -1,3 +1,4 @@
+-- What is left to show of `unquote`.
 use Rattle.std.proofs.Common.{Ok, Err}
 use Rattle.cy_bytes.proofs.Texts.{spelling_is_read, fault_is_read}
 use Rattle.cy_bytes.proofs.Answered.{ok_spells, at_reading, names_fault}

@@ -1,3 +1,4 @@
+-- What is left to show of `value_at`.
 use Rattle.toml.proofs.Views.{table_get}
 use Rattle.cy_config.proofs.members.value_at.Goals as goal
 

@@ -1,3 +1,4 @@
+-- What the loops of `connector_of` keep.
 use Rattle.std.proofs.Common.{◌≡◌, take}
 use Rattle.toml.specs.View.{table_view}
 use Rattle.cy_config.specs.Printing.{connector_of, told}

@@ -1,3 +1,4 @@
+-- What is left to show of `insert`.
 use Rattle.std.proofs.Common.{◌≡◌, List, ℕ, ap, ◌∙◌}
 use Rattle.toml.specs.View.{members_view, table_view, view}
 use Rattle.cy_config.specs.Printing.{insert}

@@ -1,3 +1,4 @@
+-- What is left to show of `rules_of`.
 use Rattle.std.proofs.Common.{IsUtf8, subst, sym}
 use Rattle.std.proofs.lemmas.List.Elements.{All-get_or}
 use Rattle.cy_map.specs.declared.rule.Rule.{Rule}

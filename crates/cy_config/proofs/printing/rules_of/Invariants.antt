@@ -1,3 +1,4 @@
+-- What the loops of `rules_of` keep.
 use Rattle.std.proofs.Common.{◌≡◌, map, take}
 use Rattle.toml.specs.View.{view}
 use Rattle.cy_config.specs.Printing.{rule_table}

@@ -1,3 +1,4 @@
+-- What is left to show of `read_table`.
 use Rattle.std.proofs.Common.{List, IsUtf8, subst, sym}
 use Rattle.std.specs.Prelude.{All}
 use Rattle.cy_map.specs.declared.rule.Rule.{Rule}

@@ -1,3 +1,4 @@
+-- What the loops of `read_rules` keep.
 use Rattle.std.proofs.Common.{◌≡◌, [], true, length, drop, map, IsUtf8}
 use Rattle.std.specs.Prelude.{All}
 use Rattle.std.specs.List.{list_all}

@@ -1,3 +1,4 @@
+-- What is left to show of `rule_tables`.
 use Rattle.std.proofs.Common.{◌≡◌, ◌&&◌, true, leb, length, sym, ◌∙◌}
 use Rattle.std.specs.List.{list_all}
 use Rattle.std.proofs.lemmas.Bool.{and_parts}

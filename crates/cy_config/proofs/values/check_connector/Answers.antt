@@ -1,3 +1,4 @@
+-- What is left to show of `check_connector`.
 use Rattle.std.proofs.Common.{◌≡◌, [], ◌∷◌, ap, ◌∙◌, List, String, Global, string_bytes, arith}
 use Rattle.std.specs.List.{cons_option, filter_map}
 use Rattle.std.proofs.lemmas.Grind.{common_steps}

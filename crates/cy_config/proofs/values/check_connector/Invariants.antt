@@ -1,3 +1,4 @@
+-- What the loops of `check_connector` keep.
 use Rattle.std.proofs.Common.{◌≡◌}
 use Rattle.std.specs.List.{filter_map}
 use Rattle.toml.specs.View.{table_view, members_view}

@@ -1,3 +1,4 @@
+-- What is left to show of `check_top`.
 use Rattle.std.proofs.Common.{◌≡◌, ap, ◌∙◌, map, string_bytes, sym}
 use Rattle.std.specs.List.{filter_map}
 use Rattle.cy_config.specs.Meaning.{unknown_at_top}

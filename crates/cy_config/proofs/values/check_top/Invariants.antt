@@ -1,3 +1,4 @@
+-- What the loops of `check_top` keep.
 use Rattle.std.proofs.Common.{◌≡◌, map, string_bytes}
 use Rattle.std.specs.List.{filter_map}
 use Rattle.toml.specs.View.{table_view}

@@ -1,3 +1,4 @@
+-- What is left to show of `settings_in`.
 use Rattle.std.proofs.Common.{rules, ◌≡◌, ◌≤◌, arith}
 use Rattle.std.proofs.lemmas.Grind.{common_steps}
 use Rattle.cy_settings.specs.declared.setting.Setting.TheVariants.{MinSpareThreads, MaxThreads, Port}

@@ -1,3 +1,4 @@
+-- What the loops of `tell_of` keep.
 use Rattle.std.proofs.Common.{◌≡◌, ◌<◌, ◌+◌, ◌%◌, ℕ, true, Some, slice_get}
 use Rattle.cy_link.proofs.mem_ready.tell_of.Given as goal
 

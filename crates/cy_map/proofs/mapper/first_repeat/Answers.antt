@@ -1,3 +1,4 @@
+-- What is left to show of `first_repeat`.
 use Rattle.std.proofs.Common.{below_more, Some, None}
 use Rattle.cy_map.proofs.Repeats.{earlier_is, none_at_all}
 use Rattle.cy_map.proofs.mapper.first_repeat.Goals as goal

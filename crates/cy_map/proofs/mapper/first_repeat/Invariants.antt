@@ -1,3 +1,4 @@
+-- What the loops of `first_repeat` keep.
 use Rattle.std.proofs.Common.{◌≡◌, ◌<◌, ℕ, None}
 use Rattle.cy_map.specs.Refusals.{earlier}
 use Rattle.cy_map.proofs.mapper.first_repeat.Given as goal

@@ -1,3 +1,4 @@
+-- What is left to show of `longest_base`.
 use Rattle.std.proofs.Common.{◌≡◌, ◌∙◌, arith, length, max}
 use Rattle.cy_map.proofs.Lookups.{bases_more, bases_all, base_within, no_base_within, ord_max_is}
 use Rattle.cy_map.proofs.mapper.longest_base.Goals as goal

@@ -1,3 +1,4 @@
+-- What the loops of `longest_base` keep.
 use Rattle.std.proofs.Common.{take}
 use Rattle.cy_map.specs.Indexes.{AreBasesWithin}
 use Rattle.cy_map.proofs.mapper.longest_base.Given as goal

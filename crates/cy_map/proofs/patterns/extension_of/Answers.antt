@@ -1,3 +1,4 @@
+-- What is left to show of `extension_of`.
 use Rattle.cy_map.proofs.Segments.{after_last_dot, after_no_dot}
 use Rattle.cy_map.proofs.patterns.extension_of.Goals as goal
 

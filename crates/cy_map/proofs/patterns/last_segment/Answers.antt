@@ -1,3 +1,4 @@
+-- What is left to show of `last_segment`.
 use Rattle.std.proofs.Common.{sym}
 use Rattle.cy_map.proofs.Segments.{after_last_byte, after_no_byte}
 use Rattle.cy_map.specs.Patterns.{slash}

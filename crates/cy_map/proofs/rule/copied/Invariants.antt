@@ -1,3 +1,4 @@
+-- What the loops of `copied` keep.
 use Rattle.std.proofs.Common.{◌≡◌, take}
 use Rattle.cy_map.proofs.rule.copied.Given as goal
 

@@ -1,3 +1,4 @@
+-- The law `example_is_reported`, from the lemmas that show it.
 use Rattle.cy_model.proofs.WorkedExample as worked
 use Rattle.cy_model.proofs.laws.example_is_reported.Goals as goal
 

@@ -1,3 +1,4 @@
+-- The law `gone_stays_gone`, from the lemmas that show it.
 use Rattle.cy_model.proofs.Gone as shown
 use Rattle.cy_model.proofs.laws.gone_stays_gone.Goals as goal
 

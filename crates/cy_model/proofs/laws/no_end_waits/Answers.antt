@@ -1,3 +1,4 @@
+-- The law `no_end_waits`, from the lemmas that show it.
 use Rattle.cy_model.proofs.Waiting as shown
 use Rattle.cy_model.proofs.laws.no_end_waits.Goals as goal
 

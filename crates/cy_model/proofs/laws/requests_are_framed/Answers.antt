@@ -1,3 +1,4 @@
+-- The law `requests_are_framed`, from the lemmas that show it.
 use Rattle.cy_model.proofs.FramedHeads as shown
 use Rattle.cy_model.proofs.laws.requests_are_framed.Goals as goal
 

@@ -1,3 +1,4 @@
+-- What the loops of `hand_out` keep.
 use Rattle.std.proofs.Common.{◌≤◌, length}
 use Rattle.cy_net.proofs.ready.hand_out.Given as goal
 

@@ -1,3 +1,4 @@
+-- The law `pieces_end_at_cuts`, from the lemmas that show it.
 use Rattle.cy_out.proofs.PieceEnds.{pieces_end_at_cuts}
 use Rattle.cy_out.proofs.laws.pieces_end_at_cuts.Goals as goal
 

@@ -1,3 +1,4 @@
+-- What is left to show of `end_waits`.
 use Rattle.std.proofs.lemmas.List.{take_more}
 use Rattle.cy_poll.proofs.Ended.{more_ended, none_ended}
 use Rattle.cy_poll.proofs.interests.end_waits.Goals as goal

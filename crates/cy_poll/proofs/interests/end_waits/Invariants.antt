@@ -1,3 +1,4 @@
+-- What the loops of `end_waits` keep.
 use Rattle.std.proofs.Common.{take}
 use Rattle.cy_poll.proofs.Ended.{EndedSoFar}
 use Rattle.cy_poll.proofs.interests.end_waits.Given as goal

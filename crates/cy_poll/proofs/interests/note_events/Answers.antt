@@ -1,3 +1,4 @@
+-- What is left to show of `note_events`.
 use Rattle.std.proofs.Common.{false, sym, ◌∙◌, arith}
 use Rattle.std.proofs.lemmas.List.{length-take, take_more}
 use Rattle.cy_link.specs.declared.readiness.Ready.{Ready}

@@ -1,3 +1,4 @@
+-- What the loops of `note_events` keep.
 use Rattle.std.proofs.Common.{take}
 use Rattle.cy_poll.proofs.Noted.{NotedSoFar}
 use Rattle.cy_poll.proofs.interests.note_events.Given as goal

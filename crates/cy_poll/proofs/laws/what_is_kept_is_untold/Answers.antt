@@ -1,3 +1,4 @@
+-- The law `what_is_kept_is_untold`, from the lemmas that show it.
 use Rattle.cy_poll.proofs.Untold.{keeps_untold}
 use Rattle.cy_poll.proofs.laws.what_is_kept_is_untold.Goals as goal
 

@@ -1,3 +1,4 @@
+-- The law `each_number_once`, from the lemmas that show it.
 use Rattle.cy_pool.proofs.Shelves.{each_number_once}
 use Rattle.cy_pool.proofs.laws.each_number_once.Goals as goal
 

@@ -1,3 +1,4 @@
+-- What is left to show of `put_answer`.
 use Rattle.std.proofs.Common.{[], length, append_assoc}
 use Rattle.cy_proc.specs.AnswerBytes.{head_bytes}
 use Rattle.cy_proc.proofs.AnswerParts.{content_is}

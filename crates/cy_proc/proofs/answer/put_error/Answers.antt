@@ -1,3 +1,4 @@
+-- What is left to show of `put_error`.
 use Rattle.std.proofs.Common.{◌≡◌, ℕ, ◌+◌, List, length, ap}
 use Rattle.std.specs.Prelude.{decimal}
 use Rattle.cy_proc.proofs.AnswerParts.{error_size, head_of_error, parts_of_error}

@@ -1,3 +1,4 @@
+-- What is left to show of `put_head`.
 use Rattle.cy_proc.proofs.AnswerParts.{parts_of_head}
 use Rattle.cy_proc.proofs.answer.put_head.Goals as goal
 

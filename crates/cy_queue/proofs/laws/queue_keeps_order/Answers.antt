@@ -1,3 +1,4 @@
+-- The law `queue_keeps_order`, from the lemmas that show it.
 use Rattle.cy_queue.proofs.Order.{keeps_order}
 use Rattle.cy_queue.proofs.laws.queue_keeps_order.Goals as goal
 

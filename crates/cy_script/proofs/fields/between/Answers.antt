@@ -1,3 +1,4 @@
+-- What is left to show of `between`.
 use Rattle.std.proofs.Common.{sym, None, Some}
 use Rattle.std.proofs.lemmas.Bool.Decides.{Decides-eqb}
 use Rattle.std.proofs.lemmas.Slice.Eq.{strip_prefix_is, strip_suffix_is}

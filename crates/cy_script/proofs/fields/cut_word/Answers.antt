@@ -1,3 +1,4 @@
+-- What is left to show of `cut_word`.
 use Rattle.std.proofs.Common.{◌≡◌, ◌-◌, length, take, drop, sym, arith}
 use Rattle.std.proofs.lemmas.Grind.{common_steps}
 use Rattle.cy_script.proofs.Words.{word_ends, one_word}

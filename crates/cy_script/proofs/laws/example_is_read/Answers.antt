@@ -1,3 +1,4 @@
+-- The law `example_is_read`, from the lemmas that show it.
 use Rattle.std.proofs.Common.{refl}
 use Rattle.cy_bytes.specs.Numbers.{decimal_of}
 use Rattle.cy_bytes.specs.Quoting.{unquoted}

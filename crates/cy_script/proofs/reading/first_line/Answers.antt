@@ -1,3 +1,4 @@
+-- What is left to show of `first_line`.
 use Rattle.std.proofs.Common.{◌≡◌, ◌-◌, ◌+◌, length, take, drop, add-one, arith}
 use Rattle.std.proofs.lemmas.Grind.{common_steps}
 use Rattle.cy_script.proofs.Lines.{line_ends, one_line, is_something}

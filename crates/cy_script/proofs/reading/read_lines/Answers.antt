@@ -1,3 +1,4 @@
+-- What is left to show of `read_lines`.
 use Rattle.cy_script.proofs.StatementLines.{statement_is, is_bounded}
 use Rattle.cy_script.proofs.reading.read_lines.Goals as goal
 

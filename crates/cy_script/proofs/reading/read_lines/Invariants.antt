@@ -1,3 +1,4 @@
+-- What the loops of `read_lines` keep.
 use Rattle.std.proofs.Common.{◌≡◌, length}
 use Rattle.cy_script.specs.Reading.{after_lines, lines_of, nothing_said}
 use Rattle.cy_script.proofs.reading.read_lines.Given as goal

@@ -1,3 +1,4 @@
+-- What is left to show of `read_script`.
 use Rattle.std.proofs.Common.{subst}
 use Rattle.cy_script.specs.Answers.{Reads}
 use Rattle.cy_script.proofs.Answered.{ok_is_kept, ok_is_spelled}

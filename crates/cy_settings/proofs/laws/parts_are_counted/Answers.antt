@@ -1,3 +1,4 @@
+-- The law `parts_are_counted`, from the lemmas that show it.
 use Rattle.cy_settings.proofs.SettingLaws.{counts_parts}
 use Rattle.cy_settings.proofs.laws.parts_are_counted.Goals as goal
 

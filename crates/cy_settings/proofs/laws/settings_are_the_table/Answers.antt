@@ -1,3 +1,4 @@
+-- The law `settings_are_the_table`, from the lemmas that show it.
 use Rattle.std.proofs.Common.{refl}
 use Rattle.cy_settings.proofs.laws.settings_are_the_table.Goals as goal
 

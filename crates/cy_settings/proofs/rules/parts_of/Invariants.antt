@@ -1,3 +1,4 @@
+-- What the loops of `parts_of` keep.
 use Rattle.std.proofs.Common.{◌≡◌, take}
 use Rattle.cy_settings.specs.Rules.{parts_of}
 use Rattle.cy_settings.proofs.rules.parts_of.Given as goal

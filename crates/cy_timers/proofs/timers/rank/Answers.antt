@@ -1,3 +1,4 @@
+-- What is left to show of `rank`.
 use Rattle.std.proofs.Common.{rules}
 use Rattle.std.proofs.lemmas.List.Sorted.{IsPartitionPoint-from_clause}
 use Rattle.cy_timers.specs.declared.timers.Timer.{Timer}

@@ -1,3 +1,4 @@
+-- What is left to show of `read_all`.
 use Rattle.std.proofs.Common.{◌≡◌, ◌<◌, ◌≤◌, length, take, arith, length-take-le}
 use Rattle.cyctl.proofs.Streams.{WasRead-further}
 use Rattle.cyctl.proofs.input.read_all.Goals as goal

@@ -1,3 +1,4 @@
+-- What the loops of `read_all` keep.
 use Rattle.std.proofs.Common.{◌≡◌, ◌≤◌, vec_len}
 use Rattle.std.specs.Io.KnownBytes.{Consumes}
 use Rattle.cyctl.proofs.input.read_all.Given as goal

@@ -1,3 +1,4 @@
+-- The law `read_steps_are_valid`, from the lemmas that show it.
 use Rattle.cy_script.proofs.KeptBy.{script_kept}
 use Rattle.cy_script.proofs.Scripts.{read_is_script}
 use Rattle.cyctl.proofs.ReadSteps.{script_is_valid}

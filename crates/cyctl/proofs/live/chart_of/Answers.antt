@@ -1,3 +1,4 @@
+-- What is left to show of `chart_of`.
 use Rattle.std.proofs.Common.{◌∷◌, [], ◌++◌, List, take, ap, sym, ◌∙◌}
 use Rattle.std.proofs.lemmas.List.{take_more}
 use Rattle.std.proofs.lemmas.Option.{get_or_from_slice_get, slice_get_within}

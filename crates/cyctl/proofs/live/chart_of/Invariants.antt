@@ -1,3 +1,4 @@
+-- What the loops of `chart_of` keep.
 use Rattle.std.proofs.Common.{◌≡◌, take}
 use Rattle.cyctl.proofs.live.chart_of.Given as goal
 

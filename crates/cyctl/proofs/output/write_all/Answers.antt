@@ -1,3 +1,4 @@
+-- What is left to show of `write_all`.
 use Rattle.std.proofs.Common.{◌≡◌, ◌∙◌, ◌-◌, length, take, drop, subst, arith, length-drop, take_all}
 use Rattle.std.specs.Io.KnownBytes.{Appends}
 use Rattle.cyctl.proofs.Streams.{Appends-further}

@@ -1,3 +1,4 @@
+-- What the loops of `push_chart_items` keep.
 use Rattle.std.proofs.Common.{◌≡◌, ◌++◌, drop}
 use Rattle.std.specs.List.{flat_map}
 use Rattle.cy_model.specs.Reports.{chart_item}

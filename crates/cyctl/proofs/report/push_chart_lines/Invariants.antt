@@ -1,3 +1,4 @@
+-- What the loops of `push_chart_lines` keep.
 use Rattle.std.proofs.Common.{◌≡◌, ◌+◌, ◌++◌, drop}
 use Rattle.cy_model.specs.Reports.{chart_lines}
 use Rattle.cyctl.proofs.report.push_chart_lines.Given as goal

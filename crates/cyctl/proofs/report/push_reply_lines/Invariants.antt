@@ -1,3 +1,4 @@
+-- What the loops of `push_reply_lines` keep.
 use Rattle.std.proofs.Common.{◌≡◌, ◌+◌, ◌++◌, drop, map}
 use Rattle.cy_model.specs.Replies.{plain}
 use Rattle.cy_model.specs.Reports.{reply_lines}

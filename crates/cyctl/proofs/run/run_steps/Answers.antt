@@ -1,3 +1,4 @@
+-- What is left to show of `run_steps`.
 use Rattle.std.proofs.Common.{List, reverse, take, sym, ◌∙◌, subst}
 use Rattle.cy_event.specs.declared.steps.Step.{Step}
 use Rattle.cyctl.proofs.Runs.{can_take_next, nobody_next, reverse-take_more}

@@ -1,3 +1,4 @@
+-- What the loops of `run_steps` keep.
 use Rattle.std.proofs.Common.{◌≡◌, count_by, reverse, take, None}
 use Rattle.cy_script.specs.Conditions.{is_admit}
 use Rattle.cyctl.specs.Running.{RunsTo}

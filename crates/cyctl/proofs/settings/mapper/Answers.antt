@@ -1,3 +1,4 @@
+-- What is left to show of `mapper`.
 use Rattle.std.proofs.Common.{ap, ◌∙◌, Err}
 use Rattle.cyctl.proofs.settings.mapper.Goals as goal
 

@@ -1,3 +1,4 @@
+-- What is left to show of `push_admitted`.
 use Rattle.std.proofs.Common.{◌++◌, Option, List, ℕ, sym, subst, ◌∙◌, ap}
 use Rattle.cy_event.specs.declared.table.ChartItem.{ChartItem}
 use Rattle.cy_model.specs.Reports.{connection_text}

@@ -1,3 +1,4 @@
+-- What is left to show of `report`.
 use Rattle.std.proofs.Common.{List, map, ℕ, ◌++◌, sym, subst, ◌∙◌, ap}
 use Rattle.cy_event.specs.declared.steps.Reply.{Reply}
 use Rattle.cy_model.specs.Replies.{plain}

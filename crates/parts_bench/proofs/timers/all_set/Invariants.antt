@@ -1,3 +1,4 @@
+-- What the loops of `all_set` keep.
 use Rattle.std.proofs.Common.{◌≡◌, length}
 use Rattle.parts_bench.specs.declared.timers.TheConstants.{PLACES}
 use Rattle.parts_bench.proofs.timers.all_set.Given as goal

@@ -1,3 +1,4 @@
+-- What the loops of `take_and_give` keep.
 use Rattle.cy_pool.specs.Stocks.{IsIdleSeatOf}
 use Rattle.threads_bench.proofs.pools.take_and_give.Given as goal
 

@@ -1,3 +1,4 @@
+-- What is left to show of `LatchBook::enter`.
 use Rattle.std.proofs.Common.{ℕ, List, vec_capacity, refl, subst, arith}
 use Rattle.cy_latch.specs.Free.{IsFree}
 use Rattle.cy_latch.proofs.Drawn.{drawn_below, drawn_idle, free_drawn}

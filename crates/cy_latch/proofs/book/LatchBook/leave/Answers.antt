@@ -1,3 +1,4 @@
+-- What is left to show of `LatchBook::leave`.
 use Rattle.std.proofs.Common.{◌≡◌, ◌<◌, ℕ, Bool, true, false, List, length, vec_capacity, sym, ◌∙◌, arith}
 use Rattle.std.proofs.lemmas.List.{get_or_default}
 use Rattle.cy_latch.specs.Numbers.{is_out}

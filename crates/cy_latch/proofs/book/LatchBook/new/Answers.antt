@@ -1,3 +1,4 @@
+-- What is left to show of `LatchBook::new`.
 use Rattle.std.proofs.Common.{◌∙◌, arith}
 use Rattle.cy_latch.proofs.Drawn.{first_more}
 use Rattle.cy_latch.proofs.book.LatchBook.new.Goals as goal

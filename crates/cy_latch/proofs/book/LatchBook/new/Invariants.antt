@@ -1,3 +1,4 @@
+-- What the loops of `LatchBook::new` keep.
 use Rattle.std.proofs.Common.{◌≡◌, vec_capacity}
 use Rattle.cy_latch.proofs.Drawn.{AreFirst}
 use Rattle.cy_latch.proofs.book.LatchBook.new.Given as goal

@@ -1,3 +1,4 @@
+-- What is left to show of `ListClockClock::now`.
 use Rattle.std.proofs.Common.{rules}
 use Rattle.cy_link.proofs.Moments.{tells_more}
 use Rattle.cy_link.proofs.list_clock.ListClockClock.now.Goals as goal

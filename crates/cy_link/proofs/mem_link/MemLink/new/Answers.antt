@@ -1,3 +1,4 @@
+-- What is left to show of `MemLink::new`.
 use Rattle.std.proofs.Common.{rules, ◌≡◌, true, ap, ◌∙◌, arith}
 use Rattle.std.specs.List.{list_all, filter}
 use Rattle.std.proofs.lemmas.Fn.{filter_same}

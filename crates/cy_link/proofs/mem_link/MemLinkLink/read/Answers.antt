@@ -1,3 +1,4 @@
+-- What is left to show of `MemLinkLink::read`.
 use Rattle.std.proofs.Common.{rules, ◌≡◌, ◌≤◌, ◌<◌, get_or, ◌+◌, length, Some, ap, ◌∙◌, sym, arith, refl}
 use Rattle.std.specs.List.{slice_get}
 use Rattle.std.proofs.lemmas.Grind.{common_steps}

@@ -1,3 +1,4 @@
+-- What is left to show of `MemSourceSource::read`.
 use Rattle.std.proofs.Common.{◌≡◌, length, take, drop, arith}
 use Rattle.std.proofs.lemmas.Grind.{common_steps}
 use Rattle.cy_link.proofs.Fronts.{front_moves}

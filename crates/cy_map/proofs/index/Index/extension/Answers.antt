@@ -1,3 +1,4 @@
+-- What is left to show of `Index::extension`.
 use Rattle.std.proofs.Common.{◌∙◌}
 use Rattle.cy_map.proofs.Lookups.{first_extension, no_extension}
 use Rattle.cy_map.proofs.index.Index.extension.Goals as goal

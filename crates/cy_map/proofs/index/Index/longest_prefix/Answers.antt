@@ -1,3 +1,4 @@
+-- What is left to show of `Index::longest_prefix`.
 use Rattle.std.proofs.Common.{◌≡◌, ◌-◌, ◌∙◌, sym, arith, take, length-take-le, Some}
 use Rattle.cy_map.specs.declared.index.Form.TheVariants.{Prefix}
 use Rattle.cy_map.specs.Indexes.{first_read}

@@ -1,3 +1,4 @@
+-- What the loops of `Index::longest_prefix` keep.
 use Rattle.std.proofs.Common.{◌≡◌, ◌≤◌, ℕ, true, length, take, None}
 use Rattle.cy_map.specs.declared.index.Form.TheVariants.{Prefix}
 use Rattle.cy_map.specs.Patterns.{ends_base}

@@ -1,3 +1,4 @@
+-- What is left to show of `Index::of`.
 use Rattle.std.proofs.Common.{◌≡◌, ◌∙◌, ℕ, ◌-◌, List, Option, Some, suc, sym, ap, subst, arith, drop}
 use Rattle.std.specs.Prelude.{bytes_eq, slice_get, option_and_then}
 use Rattle.std.specs.HashMap.{get_by}

@@ -1,3 +1,4 @@
+-- What the loops of `Index::of` keep.
 use Rattle.std.proofs.Common.{◌≡◌, ℕ, List, drop}
 use Rattle.cy_map.specs.Indexes.{first_read, rule_at}
 use Rattle.cy_map.proofs.index.Index.of.Given as goal

@@ -1,3 +1,4 @@
+-- What is left to show of `Mapper::rule`.
 use Rattle.std.proofs.Common.{◌≡◌, ◌∙◌, sym, subst, ap, List, Some, None}
 use Rattle.std.specs.Prelude.{find, slice_get, option_and_then}
 use Rattle.cy_map.specs.declared.rule.Rule.{Rule}

@@ -1,3 +1,4 @@
+-- What is left to show of `BodyOut::error`.
 use Rattle.std.proofs.Common.{rules}
 use Rattle.cy_out.proofs.ErrorHeads.{error_head_is}
 use Rattle.cy_out.proofs.body_out.BodyOut.error.Goals as goal

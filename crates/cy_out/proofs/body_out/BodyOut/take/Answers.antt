@@ -1,3 +1,4 @@
+-- What is left to show of `BodyOut::take`.
 use Rattle.std.proofs.Common.{arith, ap, sym, subst, ◌≡◌, ℕ, ◌+◌, ◌-◌, ◌∙◌, false, List, length, take, drop, nat_lt, Option, None, Some, length-drop, length-take-le}
 use Rattle.cy_event.specs.Answering.{Sending, Took, more_by, passes_length, push_bytes, with_bytes}
 use Rattle.cy_out.specs.Kept.{CanFinish, answering_with}

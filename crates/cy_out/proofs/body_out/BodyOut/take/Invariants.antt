@@ -1,3 +1,4 @@
+-- What the loops of `BodyOut::take` keep.
 use Rattle.std.proofs.Common.{◌-◌, length}
 use Rattle.cy_out.specs.Pushing.{IsPushed}
 use Rattle.cy_out.proofs.body_out.BodyOut.take.Given as goal

@@ -1,3 +1,4 @@
+-- What is left to show of `Interests::sort_events`.
 use Rattle.std.proofs.Common.{◌≡◌, List, false, ap, length, sym, ◌∙◌, arith}
 use Rattle.std.proofs.lemmas.List.{length-replicate}
 use Rattle.cy_poll.specs.declared.kinds.Note.{Note}

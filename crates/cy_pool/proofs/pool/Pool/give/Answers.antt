@@ -1,3 +1,4 @@
+-- What is left to show of `Pool::give`.
 use Rattle.std.proofs.Common.{rules}
 use Rattle.cy_pool.proofs.Moves.{gives, has_room}
 use Rattle.cy_pool.proofs.pool.Pool.give.Goals as goal

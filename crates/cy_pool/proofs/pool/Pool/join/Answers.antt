@@ -1,3 +1,4 @@
+-- What is left to show of `Pool::join`.
 use Rattle.std.proofs.Common.{rules}
 use Rattle.cy_pool.proofs.Moves.{merges, few_parts}
 use Rattle.cy_pool.proofs.pool.Pool.join.Goals as goal

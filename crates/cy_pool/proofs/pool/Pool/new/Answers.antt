@@ -1,3 +1,4 @@
+-- What is left to show of `Pool::new`.
 use Rattle.std.proofs.Common.{ap, sym}
 use Rattle.cy_pool.proofs.Moves.{begins, adds}
 use Rattle.cy_pool.proofs.pool.Pool.new.Goals as goal

@@ -1,3 +1,4 @@
+-- What the loops of `Pool::new` keep.
 use Rattle.std.proofs.Common.{◌≡◌, ◌^◌, None}
 use Rattle.crossbeam_queue.specs.Passes.{view, IsPassOf}
 use Rattle.cy_pool.specs.Rule.{view_of}

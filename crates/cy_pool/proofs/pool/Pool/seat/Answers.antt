@@ -1,3 +1,4 @@
+-- What is left to show of `Pool::seat`.
 use Rattle.std.proofs.Common.{◌≡◌, ◌-◌, ◌^◌, ap, arith}
 use Rattle.crossbeam_queue.specs.Passes.{view}
 use Rattle.cy_pool.proofs.Moves.{forks}

@@ -1,3 +1,4 @@
+-- What is left to show of `Pool::take`.
 use Rattle.std.proofs.Common.{rules}
 use Rattle.cy_pool.proofs.Moves.{takes}
 use Rattle.cy_pool.proofs.pool.Pool.take.Goals as goal

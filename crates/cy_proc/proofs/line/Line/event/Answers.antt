@@ -1,3 +1,4 @@
+-- What is left to show of `Line::event`.
 use Rattle.cy_proc.proofs.Lines.{told_from}
 use Rattle.cy_proc.proofs.line.Line.event.Goals as goal
 

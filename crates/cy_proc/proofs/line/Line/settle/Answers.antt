@@ -1,3 +1,4 @@
+-- What is left to show of `Line::settle`.
 use Rattle.std.proofs.Common.{◌∙◌}
 use Rattle.cy_proc.proofs.Lines.{rest_from}
 use Rattle.cy_proc.proofs.line.Line.settle.Goals as goal

@@ -1,3 +1,4 @@
+-- What is left to show of `Processor::act`.
 use Rattle.std.proofs.Common.{ap, sym, refl, ◌∙◌, subst, take, is_some}
 use Rattle.cy_event.specs.declared.steps.Act.{Act}
 use Rattle.cy_event.specs.declared.steps.Reply.TheVariants as reply

@@ -1,3 +1,4 @@
+-- What is left to show of `Processor::event`.
 use Rattle.std.proofs.Common.{ap, ◌∙◌}
 use Rattle.cy_proc.specs.LineChanges.{after_told}
 use Rattle.cy_proc.specs.Lines.{LineParts}

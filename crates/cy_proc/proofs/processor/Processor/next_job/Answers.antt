@@ -1,3 +1,4 @@
+-- What is left to show of `Processor::next_job`.
 use Rattle.std.proofs.Common.{◌∙◌}
 use Rattle.cy_proc.proofs.Lines.{plainly}
 use Rattle.cy_proc.proofs.Requests.{owed_is}

@@ -1,3 +1,4 @@
+-- What is left to show of `Processor::open`.
 use Rattle.std.proofs.Common.{◌≡◌, ap, ◌∙◌}
 use Rattle.cy_proc.specs.LineChanges.{after_rest}
 use Rattle.cy_proc.specs.ProcessorChanges.{due_at}

@@ -1,3 +1,4 @@
+-- What is left to show of `Processor::run`.
 use Rattle.cy_proc.proofs.Requests.{turn_answers}
 use Rattle.cy_proc.proofs.processor.Processor.run.Goals as goal
 

@@ -1,3 +1,4 @@
+-- What is left to show of `Processor::take_up`.
 use Rattle.std.proofs.Common.{◌≡◌, ◌+◌, false, ap, sym, ◌∙◌, subst}
 use Rattle.cy_proc.specs.LineChanges.{after_refusal, front_at}
 use Rattle.cy_proc.specs.ProcessorChanges.{due_at, line_with}

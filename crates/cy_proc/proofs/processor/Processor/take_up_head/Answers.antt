@@ -1,3 +1,4 @@
+-- What is left to show of `Processor::take_up_head`.
 use Rattle.std.proofs.Common.{◌≡◌, subst}
 use Rattle.cy_proc.specs.ProcessorChanges.{due_of_head, line_with}
 use Rattle.cy_proc.specs.Processors.{ProcessorParts}

@@ -1,3 +1,4 @@
+-- What is left to show of `Places::pop`.
 use Rattle.std.proofs.Common.{rules, ◌<◌, ◌∷◌, length, deque_capacity, sym}
 use Rattle.cy_queue.specs.Marks.{AreMarked}
 use Rattle.cy_queue.proofs.Marks.{marks_less, waits_below, first_waits}

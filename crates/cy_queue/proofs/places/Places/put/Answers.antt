@@ -1,3 +1,4 @@
+-- What is left to show of `Places::put`.
 use Rattle.std.proofs.Common.{rules, ◌≡◌, ◌<◌, false, length, get_or}
 use Rattle.cy_queue.proofs.Marks.{marks_more, marks_room}
 use Rattle.cy_queue.proofs.places.Places.put.Goals as goal

@@ -1,3 +1,4 @@
+-- What is left to show of `Timers::cancel`.
 use Rattle.std.proofs.Common.{◌≡◌, ◌<◌, ℕ, Option, Some, None, List, length, get_or, vec_capacity, sym, ◌∙◌, subst, arith}
 use Rattle.std.proofs.lemmas.List.{get_or_default}
 use Rattle.cy_timers.specs.declared.timers.Timer.{Timer}

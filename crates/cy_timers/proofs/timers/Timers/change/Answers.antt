@@ -1,3 +1,4 @@
+-- What is left to show of `Timers::change`.
 use Rattle.std.proofs.Common.{◌≡◌, ◌<◌, ℕ, Option, Some, None, List, length, get_or, drop, vec_capacity, sym, ap, ◌∙◌, subst, arith}
 use Rattle.std.proofs.lemmas.List.{take_at}
 use Rattle.cy_timers.specs.declared.timers.Timer.{Timer}

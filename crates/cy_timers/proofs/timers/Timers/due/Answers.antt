@@ -1,3 +1,4 @@
+-- What is left to show of `Timers::due`.
 use Rattle.std.proofs.Common.{◌≡◌, ◌<◌, ◌≤◌, List, length, get_or, vec_capacity, ap, ◌∙◌, subst, arith}
 use Rattle.cy_timers.specs.declared.timers.Timer.{Timer}
 use Rattle.cy_timers.proofs.Changes.{queue_in_order}

@@ -1,3 +1,4 @@
+-- What the loops of `Timers::due` keep.
 use Rattle.std.proofs.Common.{◌≡◌, ◌++◌, take, drop}
 use Rattle.cy_timers.proofs.Fronts.{IsFront, places_of}
 use Rattle.cy_timers.proofs.timers.Timers.due.Given as goal

@@ -1,3 +1,4 @@
+-- What is left to show of `Timers::new`.
 use Rattle.std.proofs.Common.{◌≡◌, ℕ, Option, None, replicate, rules, arith}
 use Rattle.cy_timers.proofs.Changes.{queue_at_first}
 use Rattle.cy_timers.proofs.timers.Timers.new.Goals as goal

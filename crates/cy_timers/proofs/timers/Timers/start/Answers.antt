@@ -1,3 +1,4 @@
+-- What is left to show of `Timers::start`.
 use Rattle.std.proofs.Common.{◌≡◌, ◌<◌, ℕ, Option, None, List, length, get_or, vec_capacity, sym, ap, ◌∙◌, subst, arith}
 use Rattle.cy_timers.specs.declared.timers.Timer.{Timer}
 use Rattle.cy_timers.specs.Order.{IsRank}

@@ -1,3 +1,4 @@
+-- What is left to show of `Connection::into_account`.
 use Rattle.std.proofs.Common.{refl, arith}
 use Rattle.cyctl.proofs.Keeping.{tells}
 use Rattle.cyctl.proofs.connection.Connection.into_account.Goals as goal

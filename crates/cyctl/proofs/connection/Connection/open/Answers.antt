@@ -1,3 +1,4 @@
+-- What is left to show of `Connection::open`.
 use Rattle.std.proofs.Common.{ℕ, List, [], ◌++◌, drop, ap, sym, ◌∙◌, subst}
 use Rattle.cy_model.specs.Entries.{after, opening}
 use Rattle.cyctl.specs.Parts.{Keeps, LiveParts, start}

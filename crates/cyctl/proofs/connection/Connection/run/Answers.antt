@@ -1,3 +1,4 @@
+-- What is left to show of `Connection::run`.
 use Rattle.std.proofs.Common.{ℕ, ◌++◌, drop, ap, sym, ◌∙◌, subst}
 use Rattle.cyctl.specs.Answered.{Answers}
 use Rattle.cyctl.specs.Parts.{LiveParts}

@@ -1,3 +1,4 @@
+-- What is left to show of `Connector::step`.
 use Rattle.std.proofs.Common.{ℕ, List, ap, sym, ◌∙◌}
 use Rattle.cy_model.specs.Connections.{kind_of, own}
 use Rattle.cy_model.specs.Entries.{on_act, on_event, on_run}

@@ -1,3 +1,4 @@
+-- What the loops of `StdSourceSource::read` keep.
 use Rattle.std.proofs.Common.{◌≡◌}
 use Rattle.std.specs.Io.KnownBytes.{Keeps}
 use Rattle.cyctl.proofs.input.StdSourceSource.read.Given as goal

@@ -1,3 +1,4 @@
+-- What is left to show of `Live::act`.
 use Rattle.std.proofs.Common.{sym, ◌∙◌}
 use Rattle.cyctl.proofs.Lives.{act_alive, act_lives, refused_keeps, refused_lives}
 use Rattle.cyctl.proofs.live.Live.act.Goals as goal

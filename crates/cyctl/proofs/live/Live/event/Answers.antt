@@ -1,3 +1,4 @@
+-- What is left to show of `Live::event`.
 use Rattle.cyctl.proofs.Lives.{told_lives}
 use Rattle.cyctl.proofs.live.Live.event.Goals as goal
 

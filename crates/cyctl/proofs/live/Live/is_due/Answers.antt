@@ -1,3 +1,4 @@
+-- What is left to show of `Live::is_due`.
 use Rattle.cyctl.proofs.Lives.{open_lives, rested_lives}
 use Rattle.cyctl.proofs.live.Live.is_due.Goals as goal
 

@@ -1,3 +1,4 @@
+-- What is left to show of `Live::run`.
 use Rattle.std.proofs.Common.{ap, sym, ◌∙◌, subst, arith, length, inl, inr}
 use Rattle.cy_proc.specs.Processors.{is_open_at, is_over_at}
 use Rattle.cyctl.specs.Lives.{KeepsEach, SettlesEach}

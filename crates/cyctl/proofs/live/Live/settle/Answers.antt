@@ -1,3 +1,4 @@
+-- What is left to show of `Live::settle`.
 use Rattle.std.proofs.Common.{◌&&◌, not, ap, sym, ◌∙◌}
 use Rattle.cy_event.specs.declared.limits.Limits.{Limits}
 use Rattle.cy_proc.specs.LineChanges.{is_due}

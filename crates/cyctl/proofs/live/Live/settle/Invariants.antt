@@ -1,3 +1,4 @@
+-- What the loops of `Live::settle` keep.
 use Rattle.std.proofs.Common.{◌≡◌, false}
 use Rattle.cy_model.specs.Marks.{Trace}
 use Rattle.cy_proc.specs.LineChanges.{work_of}

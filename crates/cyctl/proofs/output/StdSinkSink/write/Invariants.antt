@@ -1,3 +1,4 @@
+-- What the loops of `StdSinkSink::write` keep.
 use Rattle.std.proofs.Common.{◌≡◌}
 use Rattle.std.specs.Io.KnownBytes.{Keeps}
 use Rattle.cyctl.proofs.output.StdSinkSink.write.Given as goal
