@@ -1,3 +1,4 @@
+-- What is left to show of `is_check`.
 use Rattle.std.proofs.Common.{◌≡◌, List, codes, length, String, Global, sym, ap, ◌∙◌, arith, get_or}
 use Rattle.std.proofs.lemmas.Slice.Eq.{bytes_eq-Decides}
 use Rattle.cyctl.proofs.OneWord.{one_word}

@@ -1,3 +1,4 @@
+-- What the loops of `push_rules` keep.
 use Rattle.std.proofs.Common.{◌≡◌, ◌++◌, take}
 use Rattle.std.specs.List.{flat_map}
 use Rattle.cyctl.specs.Check.{told_rule}

@@ -1,3 +1,4 @@
+-- What the loops of `push_settings` keep.
 use Rattle.std.proofs.Common.{◌≡◌, ◌++◌, take}
 use Rattle.std.specs.List.{flat_map}
 use Rattle.cy_config.specs.Texts.{shown}
