@@ -218,3 +218,18 @@ moments : map moment ([] ∷ (step.Run 1 ∷ []) ∷ (step.Run 1 ∷ step.At 5 �
     ∷ (step.At 9 ∷ step.Run 1 ∷ step.At 5 ∷ []) ∷ [])
     ≡ 0 ∷ 0 ∷ 5 ∷ 9 ∷ []
 moments = refl
+
+-- a turn whose settling ends a request begins no callback, although the next head is taken up; the turn behind it does
+abbrev completed : Trace
+completed =
+    then begun (started (job.Service 0) ∷ called call.Run None ∷ called call.Start None ∷ back ∷ called call.Return None
+    ∷ called call.CompleteOther None ∷ came get ∷ [])
+
+turn_that_ends : (reply_to (standard 1) rules 0 completed on_run).reply ≡ reply.Idle
+unfolding replies_on_literals
+turn_that_ends = refl
+
+turn_behind_it : (reply_to (standard 1) rules 0 (after (standard 1) rules 0 completed on_run) on_run).reply
+    ≡ reply.Begun (job.Service 0)
+unfolding replies_on_literals
+turn_behind_it = refl

@@ -7,7 +7,7 @@ use Rattle.cy_event.specs.declared.steps.Reply.TheVariants as reply
 use Rattle.cy_event.specs.AnswerModes.{Asked, chunk_text, chunked, counted, head_of_shape, hex_text, last_text, mode_of}
 use Rattle.cy_event.specs.AnswerModes.{piece_text, shape_of, until_close, void}
 use Rattle.cy_event.specs.Answering.{Answering, aborted, after_finish, after_flush, after_length, after_write, beginning}
-use Rattle.cy_event.specs.Answering.{closing, length_reply, with_error}
+use Rattle.cy_event.specs.Answering.{closing, emptied, length_reply, with_error}
 use Rattle.cy_event.specs.Answers.{Answer, fresh_answer, head_text}
 use Rattle.cy_event.specs.Dates.{count_off, date_at}
 
@@ -252,3 +252,12 @@ date_of_the_first_cut : (after_finish fresh_answer 5000 cut_at_2000).output
     ≡ dated in_chunks (codes "02") ++ codes "0\r\n\r\n"
 unfolding head_text date_at count_off digits
 date_of_the_first_cut = refl
+
+-- a reset takes back the content, and the length that was set
+abbrev reset : Answering → Answering
+reset a = record a { sending = emptied a.sending }
+
+reset_takes_all_back : sends (written (codes "c") (reset (written (codes "ab") (by_length (asks 1 false true)))))
+    ≡ head_with (codes "200") (codes "Content-Length: 1\r\n") [] ++ codes "c"
+unfolding head_text date_at count_off digits
+reset_takes_all_back = refl

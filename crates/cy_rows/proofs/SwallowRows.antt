@@ -12,7 +12,7 @@ use Rattle.cy_event.specs.Bodies.{bodies_on_literals}
 use Rattle.cy_event.specs.Limits.{standard}
 use Rattle.cy_model.specs.Inputs.{consumed, swallowed, used, used_at_end}
 use Rattle.cy_model.specs.Marks.{Mark, Trace, began, called, came, caused, end_given, ended, given, opened, over}
-use Rattle.cy_model.specs.Settling.{body_cause, body_move, input_move}
+use Rattle.cy_model.specs.Settling.{body_cause, body_cause_by, body_move, input_move}
 
 -- ---- a request with a head of 56 bytes and a body
 
@@ -208,3 +208,9 @@ no_end = refl
 end_with_a_cause : input_move ((0, ended) ∷ (0, caused cause.Shut) ∷ reading (framing.Length 3) (codes "ab")) ≡ None
 unfolding bodies_on_literals
 end_with_a_cause = refl
+
+-- the places of the two bytes: where they are one, the byte is a bad one
+the_earlier_decides : body_cause_by (Some 4) (Some 5) ∷ body_cause_by (Some 5) (Some 5)
+    ∷ body_cause_by (Some 6) (Some 5) ∷ []
+    ≡ bad ∷ bad ∷ too_long ∷ []
+the_earlier_decides = refl
