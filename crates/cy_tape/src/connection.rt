@@ -20,6 +20,7 @@ use std::alloc::Global;
 /// # Errors
 ///
 /// `NoMemory` where memory ran out. Then `into` is as before.
+#[tactic(auto, unfolding(cy_model::specs::Reports::connection_text, crate::specs::ChartTexts::conn_text))]
 pub fn print_conn(
     alloc: Global,
     conn: u64,

@@ -114,7 +114,8 @@ fn writes_a_connection_behind_what_stands_there(rt: HostRuntime) -> Result<(), F
         request: 2,
         items: ChartItems::of(Vec::new(alloc)),
     })?;
-    let lines = b"1 Done\nconn 7 InputEnd took 2 of 5\nout \"a\\r\\n\\\"\\x00\"\nchart 7 1 Run Cycles 12 Return\nchart 7 2\n";
+    let lines =
+        b"1 Done\nconn 7 InputEnd took 2 of 5\nout \"a\\r\\n\\\"\\x00\"\nchart 7 1 Run Cycles 12 Return\nchart 7 2\n";
     let mut into = Bytes::of(b"1 Done\n".to_vec(alloc)?);
     let cause = Some(CloseCause::InputEnd);
     print_conn(alloc, 7, cause, 2, b"a\r\n\"\x00", &charts, &mut into)?;
