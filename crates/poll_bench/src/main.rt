@@ -5,6 +5,8 @@
 
 mod echo;
 mod table;
+#[cfg(test)]
+mod tests;
 mod wakes;
 
 use anyhow::{Context, Result};
