@@ -1,0 +1,2 @@
+pub mod ChartTexts
+pub mod Laws
