@@ -21,6 +21,15 @@ impl Model for Share {
     ghost view = { λ s. s.number };
 }
 
+impl Share {
+    /// Its number, which is below the limit of its latch and no other share's that is out.
+    pub fn number(&self) -> u32
+        ensures { result ≡ self.now }
+    {
+        self.number
+    }
+}
+
 /// What `LatchBook::enter` answers.
 #[derive(Debug, Drop)]
 pub enum Enter {

@@ -1,15 +1,15 @@
 -- A mark that is built, and what is due.
-use Rattle.std.proofs.Common.{◌≡◌, ℕ, Bool, true, false, ◌||◌, cond, List, [], ◌∷◌, Option, Some, None, refl, Ok, Err}
+use Rattle.std.proofs.Common.{◌≡◌, ℕ, true, false, cond, List, ◌∷◌, Option, Some, None, refl, Ok, Err}
 use Rattle.cy_event.specs.declared.limits.Limits.{Limits}
 use Rattle.cy_event.specs.Framings.{Framed, framed, not_implemented}
 use Rattle.cy_event.specs.Heads.{Front, Head, awaited, found, malformed}
 use Rattle.cy_event.specs.Targets.{PathAndQuery, target_of}
 use Rattle.cy_map.specs.declared.rule.Rule.{Rule}
 use Rattle.cy_map.specs.Mapping.{mapped}
-use Rattle.cy_model.specs.Marks.{Mark, TakenUp, Trace}
+use Rattle.cy_model.specs.Marks.{Mark, Trace}
 use Rattle.cy_model.specs.Settling.{Due, nothing, refusal, not_found, request, due_by_front, due_by_verdict}
 use Rattle.cy_model.specs.Unbuilt.{NothingUnbuilt, is_unbuilt, is_unbuilt_request}
-use Rattle.cy_model.specs.Verdicts.{Verdict, turned_away, unserved, served, by_framing, by_rule, by_target, is_connect, is_framed, is_head_method, is_unbuilt as is_unbuilt_head, verdict_of}
+use Rattle.cy_model.specs.Verdicts.{Verdict, turned_away, unserved, served, by_framing, by_rule, by_target, is_connect, is_unbuilt as is_unbuilt_head, verdict_of}
 
 -- one mark more
 pub built_more : (t : ℕ) (m : Mark) (T : Trace) → is_unbuilt m ≡ false → NothingUnbuilt T → NothingUnbuilt ((t, m) ∷ T)

@@ -1,5 +1,5 @@
 -- The parts that follow each thing that happens stand for the trace that follows it.
-use Rattle.std.proofs.Common.{◌≡◌, ◌≤◌, ℕ, ◌+◌, Bool, true, false, ◌&&◌, ◌||◌, cond, List, [], ◌∷◌, ◌++◌, length, take, drop, max, Option, Some, None, is_some, refl, sym, ap, ◌∙◌, subst, arith, length-drop, length-append, length-take-le, if◌then◌else◌}
+use Rattle.std.proofs.Common.{◌≡◌, ◌≤◌, ℕ, ◌+◌, Bool, true, false, ◌&&◌, List, [], ◌∷◌, ◌++◌, length, take, drop, max, Option, Some, None, refl, sym, ap, ◌∙◌, subst, arith, length-drop, length-append, length-take-le, if◌then◌else◌}
 use Rattle.std.proofs.lemmas.Bool.{and_parts}
 use Rattle.std.proofs.lemmas.List.Elements.{All-cons, All-weaker}
 use Rattle.cy_event.specs.declared.limits.Limits.{Limits}
@@ -12,14 +12,13 @@ use Rattle.cy_event.specs.declared.steps.Reply.{Reply}
 use Rattle.cy_event.specs.declared.steps.Reply.TheVariants as reply
 use Rattle.cy_model.specs.Entries.{event_marks, event_reply, is_closed_by, is_closed_to, rested_event, sent_of}
 use Rattle.cy_event.specs.AnswerModes.{has_no_content}
-use Rattle.cy_event.specs.Answering.{Sending}
-use Rattle.cy_model.specs.Folds.{bytes_of, cause_of, earlier, has_ended, is_broken, is_open, last_taken}
-use Rattle.cy_model.specs.Inputs.{consumed, head_end, room, unread}
-use Rattle.cy_model.specs.Outputs.{answer_of, answering_of, begin_text, end_by, is_gone, is_silent, sending_of, took, unsent, writing}
+use Rattle.cy_model.specs.Folds.{bytes_of, cause_of, earlier, has_ended, is_broken, is_open}
+use Rattle.cy_model.specs.Inputs.{consumed, room, unread}
+use Rattle.cy_model.specs.Outputs.{answer_of, end_by, is_gone, sending_of, unsent, writing}
 use Rattle.cy_model.specs.Marks.{Mark, ended, came, sent, began, refused, over, caused, TakenUp, Trace}
 use Rattle.cy_event.specs.Answers.{Answer}
-use Rattle.cy_model.specs.Settling.{after_move, first_move, front_of, is_awaited, last_answer_marks, may_begin, may_begin_by, quiet_step, rested, with_marks}
-use Rattle.cy_model.specs.Unbuilt.{NothingUnbuilt, is_unbuilt_cause, is_unbuilt_request}
+use Rattle.cy_model.specs.Settling.{front_of, is_awaited, last_answer_marks, may_begin, may_begin_by, rested, with_marks}
+use Rattle.cy_model.specs.Unbuilt.{is_unbuilt_cause, is_unbuilt_request}
 use Rattle.cy_model.proofs.Built.{IsPlain, has_whole, mark_plain, plain_of}
 use Rattle.cy_model.proofs.Moves.{may_begin-parts}
 use Rattle.cy_proc.specs.Lines.{LineParts, line_parts, IsSound, NoneLater, Represents}

@@ -1,18 +1,20 @@
 -- A head that is taken up or refused: the parts that follow stand for the trace that follows.
-use Rattle.std.proofs.Common.{◌≡◌, ◌≤◌, inl, ℕ, ◌+◌, ◌<◌, ◌++◌, Bool, true, false, not, ◌&&◌, ◌||◌, leb, List, [], ◌∷◌, length, map, Option, Some, None, is_none, refl, sym, ap, ◌∙◌, subst, arith, length-drop, codes, bytes_eq, if◌then◌else◌}
+use Rattle.std.proofs.Common.{◌≡◌, ◌≤◌, inl, ℕ, ◌+◌, ◌<◌, ◌++◌, Bool, true, false, not, ◌&&◌, ◌||◌, leb, List, [], ◌∷◌, length, map, Option, Some, None, is_none, refl, sym, ap, ◌∙◌, subst, arith, length-drop, length-append, length-take, take, codes, bytes_eq, if◌then◌else◌}
 use Rattle.std.proofs.lemmas.Bool.{and_parts}
 use Rattle.std.proofs.lemmas.List.{append-nil}
 use Rattle.cy_event.specs.declared.limits.Limits.{Limits}
+use Rattle.cy_event.specs.declared.steps.Event.{Event}
+use Rattle.cy_event.specs.declared.steps.Event.TheVariants as event
 use Rattle.cy_event.specs.declared.steps.CloseCause.{CloseCause}
 use Rattle.cy_event.specs.declared.steps.CloseCause.TheVariants.{InputEnd, Refused}
 use Rattle.cy_event.specs.Answers.{Answer, error_answer as error_answer_of, fresh_answer}
 use Rattle.cy_event.specs.Charts.{chart_of}
 use Rattle.cy_event.specs.Framings.{bad_request}
 use Rattle.cy_event.specs.Heads.{Head, Front, awaited, found, malformed, head_of}
-use Rattle.cy_event.specs.Targets.{PathAndQuery, target_of}
+use Rattle.cy_event.specs.Targets.{target_of}
 use Rattle.cy_event.specs.RequestHeads.{RequestParts}
 use Rattle.cy_event.proofs.Fronts.{front_length-bounds, head_of-found}
-use Rattle.cy_head.specs.Answers.{answer_to, just_read}
+use Rattle.cy_head.specs.Answers.{answer_to}
 use Rattle.cy_head.specs.declared.front.Front.TheVariants as answer
 use Rattle.cy_map.specs.declared.rule.Rule.{Rule}
 use Rattle.cy_event.specs.Answering.{beginning}
@@ -30,7 +32,7 @@ use Rattle.cy_target.specs.Kept.{with_target}
 use Rattle.cy_proc.specs.Judging.{IsVerdict}
 use Rattle.cy_proc.specs.declared.verdict.Judgement.TheVariants as judged
 use Rattle.cy_proc.specs.Lines.{LineParts, Represents}
-use Rattle.cy_proc.specs.LineChanges.{after_begin, after_end_of, after_refusal, after_rest, ends_at_rest, front_at, is_due, causes_left, may_begin_line, work_of}
+use Rattle.cy_proc.specs.LineChanges.{after_begin, after_end_of, after_event, after_refusal, after_rest, after_told, ends_at_rest, front_at, is_closed_line, is_due, causes_left, may_begin_line, room_of, work_of}
 use Rattle.cy_proc.specs.ProcessorAnswers.{Serves, ServesAfter, TakesUp, ended_items}
 use Rattle.cy_proc.specs.ProcessorChanges.{due_at, due_of_head, line_with, processor_with, with_request}
 use Rattle.cy_proc.specs.Processors.{IsIdle, IsOfRequest, IsServiceAlone, ProcessorParts, RequestFolds, StandsFor, fresh_processor, is_open_at, request_folds, service_by, stage_by, uncut, waiting_content}
@@ -320,7 +322,7 @@ open_takes limits rules T l taken new p q free due s begun held rests =
 
 -- ---- each head makes the work less
 
-work_after_rest : (limits : Limits) (l : LineParts) → work_of (after_rest limits l) ≤ work_of l
+pub work_after_rest : (limits : Limits) (l : LineParts) → work_of (after_rest limits l) ≤ work_of l
 work_after_rest limits l =
     elim (ends_at_rest limits l) as (λ v. work_of (if v then record l { cause = Some InputEnd } else l) ≤ work_of l) [ true ↦ omega arith | false ↦ omega arith ]
 
@@ -371,3 +373,21 @@ opened_less limits rules l taken new due begun rests =
     let none = no_cause l.cause (and_parts (is_none l.cause) (leb (length l.unsent) begin_bound) may.1).0 in
     let less = less_work (due_at limits rules l) l none (finds_head limits rules (l.begun + 1) l (front_at limits l) refl (not_true (is_awaited (front_at limits l)) tests.1)) in
     omega (arith, less, work_after_rest limits taken, ap work_of rests, ap work_of begun)
+
+-- ---- what the socket tells makes it more by the bytes that came
+
+work_of_event : (e : Event) (b : List ℕ) (l : LineParts) → work_of (after_event e b l) ≤ work_of l + length b
+work_of_event event.In b l =
+    omega (arith, appended, length-take (room_of l) b)
+  where
+    appended : length (after_event event.In b l).unread ≡ length l.unread + length (take (room_of l) b)
+    appended = length-append l.unread (take (room_of l) b)
+work_of_event event.End b l = omega arith
+work_of_event (event.Took n) b l = omega arith
+
+pub told_work : (limits : Limits) (e : Event) (b : List ℕ) (l : LineParts) → work_of (after_told limits e b l) ≤ work_of l + length b
+told_work limits e b l =
+    elim (is_closed_line e l) as (λ v. work_of (if v then l else after_rest limits (after_event e b l)) ≤ work_of l + length b) [
+      | true ↦ omega arith
+      | false ↦ omega (arith, work_after_rest limits (after_event e b l), work_of_event e b l)
+    ]

@@ -1,7 +1,7 @@
 -- What a trace comes to in which nothing stands that isn't built yet: no body is used up, nothing is cut before the end of
 -- an answer, and resting is the end of the input alone.
-use Rattle.std.proofs.Common.{◌≡◌, ◌≤◌, ℕ, ◌+◌, Bool, true, false, not, ◌&&◌, ◌||◌, cond, List, [], ◌∷◌, ◌++◌, length, drop, Option, Some, None, is_some, refl, sym, ap, ◌∙◌, subst, arith, append_assoc, append-nil, if◌then◌else◌}
-use Rattle.std.proofs.lemmas.Bool.{and_left, and_parts}
+use Rattle.std.proofs.Common.{◌≡◌, ◌≤◌, ℕ, ◌+◌, Bool, true, false, not, ◌&&◌, ◌||◌, cond, List, [], ◌∷◌, ◌++◌, length, drop, Option, Some, None, is_some, refl, sym, ap, ◌∙◌, arith, append_assoc, append-nil, if◌then◌else◌}
+use Rattle.std.proofs.lemmas.Bool.{and_left}
 use Rattle.std.proofs.lemmas.List.{drop-append-le, drop-drop}
 use Rattle.std.specs.Prelude.{unwrap_or, is_none, ◌==◌}
 use Rattle.cy_event.specs.declared.limits.Limits.{Limits}
@@ -11,14 +11,13 @@ use Rattle.cy_event.specs.declared.steps.Job.{Job}
 use Rattle.cy_event.specs.declared.steps.State.TheVariants as state
 use Rattle.cy_event.specs.AnswerModes.{Mode, connection_of, counted, framing_lines, has_no_content, is_until_close, last_text, piece_text, void}
 use Rattle.cy_event.specs.Answering.{Answering, Took, after_finish, has_closed, push_bytes, with_bytes}
-use Rattle.cy_event.specs.Answers.{Answer, Connection, answer_text, content_length, head_of_answer, head_text}
-use Rattle.cy_out.proofs.Pushes.{filled, push_front}
-use Rattle.cy_model.specs.Endings.{ends_closed}
-use Rattle.cy_model.specs.Folds.{bytes_of, cause_of, earlier, has_ended, is_broken, is_open, is_served, last_taken, part_of, running}
-use Rattle.cy_model.specs.Inputs.{consumed, consumed_by, head_end, unread, used}
+use Rattle.cy_event.specs.Answers.{Answer, answer_text, content_length, head_text}
+use Rattle.cy_out.proofs.Pushes.{push_front}
+use Rattle.cy_model.specs.Folds.{bytes_of, cause_of, earlier, has_ended, is_open, is_served, last_taken, part_of, running}
+use Rattle.cy_model.specs.Inputs.{consumed, consumed_by, head_end, unread}
 use Rattle.cy_model.specs.Jobs.{next_job, service_in}
-use Rattle.cy_model.specs.Marks.{Mark, TakenUp, Trace, came, began, caused}
-use Rattle.cy_model.specs.Outputs.{answer_of, answering_of, end_by, is_aborted, is_silent, put_by, sending_of, unsent}
+use Rattle.cy_model.specs.Marks.{TakenUp, Trace, came, began, caused}
+use Rattle.cy_model.specs.Outputs.{is_silent, put_by}
 use Rattle.cy_model.specs.Settling.{Move, after_move, end_move, first_move, front_of, is_awaited, may_begin, quiet_step, rested}
 use Rattle.cy_model.proofs.Built.{IsPlain, asked_service, mark_plain, nothing_used, plain_body, plain_input, plain_return}
 use Rattle.cy_model.proofs.Gone.{may_not_begin, open_may_not_begin}

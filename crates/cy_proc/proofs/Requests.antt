@@ -1,5 +1,5 @@
 -- The parts that follow each thing that happens to a request stand for the trace that follows it.
-use Rattle.std.proofs.Common.{◌≡◌, ◌≤◌, ◌⊎◌, inl, inr, ℕ, ◌+◌, Bool, true, false, not, ◌&&◌, cond, leb, List, [], ◌∷◌, ◌++◌, length, map, take, Option, Some, None, is_some, is_none, refl, sym, ap, ◌∙◌, subst, arith, length-append, length-take, ◌==◌, ◌||◌, if◌then◌else◌}
+use Rattle.std.proofs.Common.{◌≡◌, ◌≤◌, inl, inr, ℕ, ◌+◌, Bool, true, false, not, ◌&&◌, cond, List, [], ◌∷◌, ◌++◌, length, map, take, Option, Some, None, is_some, is_none, refl, sym, ap, ◌∙◌, subst, arith, length-append, length-take, ◌==◌, ◌||◌, if◌then◌else◌}
 use Rattle.std.proofs.lemmas.Bool.{eq-eqb}
 use Rattle.std.proofs.lemmas.List.{append-nil, map-append, take-take}
 use Rattle.cy_event.specs.declared.limits.Limits.{Limits}
@@ -8,7 +8,7 @@ use Rattle.cy_event.specs.declared.steps.Act.TheVariants as act
 use Rattle.cy_event.specs.declared.steps.Call.{Call}
 use Rattle.cy_event.specs.declared.steps.Call.TheVariants as call
 use Rattle.cy_event.specs.declared.steps.CloseCause.{CloseCause}
-use Rattle.cy_event.specs.declared.steps.CloseCause.TheVariants.{InputEnd, LastAnswer}
+use Rattle.cy_event.specs.declared.steps.CloseCause.TheVariants.{InputEnd}
 use Rattle.cy_event.specs.declared.steps.Event.{Event}
 use Rattle.cy_event.specs.declared.steps.Event.TheVariants as event
 use Rattle.cy_event.specs.declared.steps.Job.{Job}
@@ -34,7 +34,7 @@ use Rattle.cy_model.specs.Inputs.{room}
 use Rattle.cy_model.specs.Outputs.{answer_of, answering_of, end_by, put_by, sending_of, unsent}
 use Rattle.cy_model.specs.Jobs.{next_job, service_in}
 use Rattle.cy_model.specs.Marks.{Mark, TakenUp, called, came, sent, ended, started, back, put, over, caused, Trace}
-use Rattle.cy_model.specs.Replies.{Replied, got_in, plain, replied_in}
+use Rattle.cy_model.specs.Replies.{plain, replied_in}
 use Rattle.cy_states.specs.Progress.{Progress, after_call, progress_of}
 use Rattle.cy_model.specs.Settling.{last_answer_marks, rested, with_marks}
 use Rattle.cy_model.proofs.Built.{IsPlain, mark_plain, plain_end}

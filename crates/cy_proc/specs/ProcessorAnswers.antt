@@ -1,8 +1,9 @@
 -- What it means that a processor answered rightly, together with the line of its connection.
-use Rattle.std.specs.Prelude.{◌≡◌, ℕ, List, ◌++◌, map, Some}
+use Rattle.std.specs.Prelude.{◌≡◌, ℕ, Bool, true, false, List, ◌++◌, map, Some}
 use Rattle.cy_event.specs.declared.steps.Act.{Act}
 use Rattle.cy_event.specs.declared.steps.Event.{Event}
 use Rattle.cy_event.specs.declared.steps.Reply.{Reply}
+use Rattle.cy_event.specs.declared.steps.Reply.TheVariants as reply
 use Rattle.cy_event.specs.declared.table.ChartItem.{ChartItem}
 use Rattle.cy_event.specs.Charts.{chart_of}
 use Rattle.cy_map.specs.declared.rule.Rule.{Rule}
@@ -13,6 +14,11 @@ use Rattle.cy_model.specs.Replies.{Replied, plain, replied_in}
 use Rattle.cy_model.specs.Settling.{rested, taken_up}
 use Rattle.cy_proc.specs.Lines.{LineParts, Represents}
 use Rattle.cy_proc.specs.Processors.{ProcessorParts, StandsFor, over_charts}
+
+-- the reply that a slot alone gives, to who isn't its tenant
+abbrev pub is_ended : Reply → Bool
+is_ended reply.Ended = true
+is_ended r = false
 
 -- line and processor stand for one trace
 pub record Serves (T : Trace) (l : LineParts) (p : ProcessorParts) : Type 0 where

@@ -207,6 +207,11 @@ IsReady stage.Serving progress = progress ≡ progress_of service_calls
 IsReady stage.Over progress = Unit {0}
 IsReady stage.Refused progress = progress ≡ progress_of []
 
+-- no head was opened
+abbrev pub is_free_at : Stage → Bool
+is_free_at stage.Free = true
+is_free_at s = false
+
 -- a request is open
 abbrev pub is_open_at : Stage → Bool
 is_open_at stage.Free = false
@@ -230,6 +235,10 @@ has_request_at stage.Owed = true
 has_request_at stage.Serving = true
 has_request_at stage.Over = true
 has_request_at stage.Refused = false
+
+-- the part of an open request
+abbrev pub part_at : ProcessorParts → ℕ
+part_at p = if is_open_at p.stage then p.part else 0
 
 -- the chart of a request that is over
 abbrev pub over_charts_at : Stage → Progress → List (List ChartItem)

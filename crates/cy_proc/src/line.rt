@@ -1,19 +1,20 @@
 //! A connection, outside of its request.
 ghost use Rattle.std.specs.Borrow.{sem};
-ghost use Rattle.std.specs.Prelude.{◌≡◌, ◌≤◌, ◌+◌, ◌++◌, ◌∷◌, ℕ, [], length, take, drop, max, ◌&&◌, not, false, true, None, IfOk};
+ghost use Rattle.std.specs.Prelude.{◌≡◌, ◌≤◌, ◌+◌, ◌++◌, ◌∷◌, ℕ, [], length, take, drop, max, min, vec_len, vec_capacity, ◌&&◌, not, false, true, None, IfOk};
 ghost use Rattle.cy_event.specs.declared.limits.TheConstants.{GREATEST_MOMENT};
 ghost use Rattle.cy_model.specs.Settling.{begin_bound, is_awaited, is_last_number};
 ghost use Rattle.cy_proc.specs.LineAnswers.{AnswersEachEvent, RestsEach};
 ghost use Rattle.cy_event.specs.Answers.{after_put, content_buffer, error_answer, fresh_answer};
 ghost use Rattle.cy_event.specs.declared.head.TheConstants.{FIELD_ROOM, HEAD_ROOM};
 ghost use Rattle.cy_head.specs.Answers.{answer_to, filled_by};
+ghost use Rattle.cy_rings.specs.declared.kit.TheConstants.{IN_CAPACITY, OUT_CAPACITY};
 ghost use Rattle.cy_proc.specs.AnswerBytes.{said};
 ghost use Rattle.cy_model.specs.Marks.{opened};
 ghost use Rattle.cy_proc.specs.Lines.{Represents};
 ghost use Rattle.cy_proc.specs.LineChanges.{after_begin, after_end_of, after_event, after_refusal, cause_after, connection_by, after_rest, after_told, at_moment, ends_at_rest, event_answer, front_at, is_closed_line, is_due, is_gone_line, may_begin_line, room_of, sent_from, standing_of, told_answer};
 
 use crate::answer::{Connection, put_answer, put_begin, put_error};
-use cy_event::{CloseCause, Event, Limits, Reply, RequestHead};
+use cy_event::{CloseCause, Event, Limits, Reply, RequestHead, extend_in_room};
 use cy_head::{Due, Front, head_due, head_front};
 use cy_rings::{ConnKit, NoMemory};
 use std::alloc::Global;
@@ -147,9 +148,19 @@ impl Line {
         self.cause
     }
 
-    /// How many bytes wait for the socket.
+    /// How many bytes of the input would be taken now, if no cause to close stands against it.
+    pub fn in_room(&self) -> usize
+        ensures room { result ≡ room_of self.now }
+        ensures held { length self.now.unread + result ≤ IN_CAPACITY }
+    {
+        let left = INPUT_TOTAL - self.came;
+        self.kit.in_room().min(left as usize)
+    }
+
+    /// How many bytes wait for the socket: as many as its ring holds at most.
     pub fn unsent_len(&self) -> usize
-        ensures { result ≡ length self.now.unsent }
+        ensures count { result ≡ length self.now.unsent }
+        ensures within { result ≤ OUT_CAPACITY }
     {
         self.kit.out_len()
     }
@@ -157,9 +168,34 @@ impl Line {
     /// The bytes that wait for the socket.
     pub fn unsent(&mut self) -> &[u8]
         ensures bytes { result.now ≡ self.old.unsent }
+        ensures within { length result.now ≤ OUT_CAPACITY }
         ensures* given_back { sem 𝓛 (IsGivenBack self.entry) }
     {
         self.kit.out_front()
+    }
+
+    /// Copies the first bytes that wait for the socket, as many as fit, and answers how many these are.
+    pub fn copy_unsent(&mut self, into: &mut [u8]) -> usize
+        ensures count { result ≡ min (length into.old) (length self.old.unsent) }
+        ensures copied { into.new ≡ take result self.old.unsent ++ drop result into.old }
+        ensures same { self.new ≡ self.old }
+    {
+        let unsent = self.kit.out_front();
+        let count = into.len().min(unsent.len());
+        into[..count].copy_from_slice(&unsent[..count]);
+        count
+    }
+
+    /// Appends the bytes that wait for the socket behind the first of them. It takes no memory: `to` has room.
+    pub fn push_unsent(&mut self, first: usize, to: &mut Vec<u8>)
+        requires room { vec_len to.old + OUT_CAPACITY ≤ vec_capacity to.old }
+        ensures pushed { to.new.items ≡ to.old.items ++ drop first self.old.unsent }
+        ensures same { self.new ≡ self.old }
+    {
+        let unsent = self.kit.out_front();
+        if first < unsent.len() {
+            extend_in_room(to, &unsent[first..]);
+        }
     }
 
     /// An entry comes at this moment, or at the last one where that is later.
@@ -170,7 +206,8 @@ impl Line {
         self.moment = self.moment.max(at);
     }
 
-    fn standing(&mut self, limits: &Limits) -> Standing
+    /// How it stands as it is. No move of the container is made.
+    pub fn standing(&mut self, limits: &Limits) -> Standing
         ensures standing { result ≡ standing_of limits.now self.old }
         ensures same { self.new ≡ self.old }
     {

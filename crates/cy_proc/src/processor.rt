@@ -1,5 +1,5 @@
 //! One request's life: the head that was taken up, the callback that runs, and the answer.
-ghost use Rattle.std.specs.Prelude.{◌≡◌, ◌≤◌, ◌<◌, ℕ, length, slice_get, max, false, true, Some, IfOk};
+ghost use Rattle.std.specs.Prelude.{◌≡◌, ◌≤◌, ◌<◌, ◌+◌, ℕ, [], length, slice_get, max, false, true, Some, IfOk};
 ghost use Rattle.cy_event.specs.declared.limits.TheConstants.{GREATEST_MOMENT};
 ghost use Rattle.cy_event.specs.declared.head.TheConstants.{HEAD_ROOM, FIELD_ROOM};
 ghost use Rattle.cy_head.specs.Answers.{just_read};
@@ -9,9 +9,9 @@ ghost use Rattle.cy_model.specs.Marks.{Trace};
 ghost use Rattle.cy_model.specs.Settling.{begin_bound};
 ghost use Rattle.cy_model.specs.Steps.{IsWithinBytes};
 ghost use Rattle.cy_proc.specs.LineChanges.{after_refusal, is_due, work_of};
-ghost use Rattle.cy_proc.specs.ProcessorAnswers.{AnswersEachAct, AnswersEachEvent, AnswersEachTurn, Serves, TakesUpEach};
+ghost use Rattle.cy_proc.specs.ProcessorAnswers.{AnswersEachAct, AnswersEachEvent, AnswersEachTurn, Serves, TakesUpEach, is_ended};
 ghost use Rattle.cy_proc.specs.ProcessorChanges.{after_job, after_return, after_write, due_at, due_of_head, job_at, line_returned, line_with, processor_with, write_reply};
-ghost use Rattle.cy_proc.specs.Processors.{IsIdle, StandsFor, fresh_processor, has_request_at, is_open_at, is_over_at, request_folds};
+ghost use Rattle.cy_proc.specs.Processors.{IsIdle, StandsFor, fresh_processor, has_request_at, is_free_at, is_open_at, is_over_at, part_at, request_folds};
 
 use crate::line::Line;
 use crate::verdict::{Judgement, judge};
@@ -114,6 +114,9 @@ impl Processor {
         requires due { is_due self.old.limits line.old ≡ true }
         ensures takes { TakesUpEach rules.now line.old self.old line.new self.new }
         ensures reply { result ≡ Reply.Done }
+        ensures together { line.new.is_open ≡ is_open_at self.new.stage }
+        ensures opened { is_free_at self.new.stage ≡ false }
+        ensures uncalled { self.new.progress.chart ≡ [] }
 
         // So heads can't be due without end.
         ensures less { work_of line.new < work_of line.old }
@@ -131,7 +134,10 @@ impl Processor {
         requires line { line.old.is_open ≡ true }
         requires moment { at ≤ GREATEST_MOMENT }
         ensures answers { AnswersEachEvent event bytes.now line.old self.old result line.new self.new }
+        ensures answered { is_ended result ≡ false }
         ensures same { self.new ≡ self.old }
+        ensures together { line.new.is_open ≡ true }
+        ensures work { work_of line.new ≤ work_of line.old + length bytes.now }
         ensures moment { line.new.moment ≡ max line.old.moment at }
     {
         line.advance(at);
@@ -144,7 +150,10 @@ impl Processor {
         requires line { line.old.is_open ≡ true }
         requires moment { at ≤ GREATEST_MOMENT }
         ensures answers { AnswersEachTurn line.old self.old result line.new self.new }
+        ensures answered { is_ended result ≡ false }
         ensures stays { is_open_at self.new.stage ≡ true }
+        ensures together { line.new.is_open ≡ true }
+        ensures work { work_of line.new ≡ work_of line.old }
         ensures limits { self.new.limits ≡ self.old.limits }
         ensures moment { line.new.moment ≡ max line.old.moment at }
     {
@@ -166,6 +175,11 @@ impl Processor {
         requires moment { at ≤ GREATEST_MOMENT }
         requires within { IsWithinBytes act.now bytes.now }
         ensures answers { AnswersEachAct act.now bytes.now line.old self.old result _into.new line.new self.new }
+        ensures answered { is_ended result ≡ false }
+        ensures together { line.new.is_open ≡ is_open_at self.new.stage }
+        ensures opened { is_free_at self.new.stage ≡ false }
+        ensures chart { length self.new.progress.chart ≤ length self.old.progress.chart + 1 }
+        ensures work { work_of line.new ≤ work_of line.old }
         ensures limits { self.new.limits ≡ self.old.limits }
         ensures moment { line.new.moment ≡ max line.old.moment at }
         ensures into { _into.new ≡ _into.old }
@@ -193,6 +207,20 @@ impl Processor {
         self.owed_job()
     }
 
+    /// The part of the open request: 0 where none is open.
+    pub fn part(&self) -> u32
+        ensures { result ≡ part_at self.now }
+    {
+        if self.is_open() { self.part } else { 0 }
+    }
+
+    /// The head of the request, with the path and the query of its target: an empty one where there is no request.
+    pub fn head(&self) -> &RequestHead
+        ensures { result.now ≡ self.now.table }
+    {
+        &self.table
+    }
+
     /// Whether the head that was opened is done with: its request has ended, or it was refused. It is to be cleared.
     pub fn is_over(&self) -> bool
         ensures { result ≡ is_over_at self.now.stage }
@@ -212,6 +240,20 @@ impl Processor {
         ensures { result ≡ is_open_at self.now.stage }
     {
         matches!(self.stage, Stage::Owed | Stage::Serving)
+    }
+
+    /// Whether no head was opened since it was made or cleared.
+    pub fn is_free(&self) -> bool
+        ensures { result ≡ is_free_at self.now.stage }
+    {
+        matches!(self.stage, Stage::Free)
+    }
+
+    /// The limits of the connections that it serves.
+    pub fn limits(&self) -> &Limits
+        ensures { result.now ≡ self.now.limits }
+    {
+        &self.limits
     }
 
     /// How many items the chart of the request has: 0 where there is none.

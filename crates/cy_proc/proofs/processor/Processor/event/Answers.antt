@@ -1,9 +1,10 @@
 -- What is left to show of `Processor::event`.
-use Rattle.std.proofs.Common.{ap, ◌∙◌}
-use Rattle.cy_proc.specs.LineChanges.{after_told}
+use Rattle.std.proofs.Common.{ap, ◌∙◌, arith}
+use Rattle.cy_proc.specs.LineChanges.{after_told, work_of}
 use Rattle.cy_proc.specs.Lines.{LineParts}
 use Rattle.cy_proc.specs.Processors.{ProcessorParts}
 use Rattle.cy_proc.proofs.Lines.{told_moment}
+use Rattle.cy_proc.proofs.Openings.{told_work}
 use Rattle.cy_proc.proofs.Requests.{event_answers}
 use Rattle.cy_proc.proofs.processor.Processor.event.Goals as goal
 
@@ -18,3 +19,12 @@ returns-clause-moment c =
     ap (λ (l : LineParts). l.moment) c.take.ensures.parts
     ∙ told_moment c.self.inside.limits c.args.event c.args.bytes.now c.advance.new.self
     ∙ ap (λ (l : LineParts). l.moment) c.advance.ensures
+
+pub returns-clause-work : goal.returns-clause-work
+returns-clause-work c =
+    omega (
+      arith,
+      ap work_of c.take.ensures.parts,
+      told_work c.self.inside.limits c.args.event c.args.bytes.now c.advance.new.self,
+      ap work_of c.advance.ensures,
+    )
