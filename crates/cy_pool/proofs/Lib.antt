@@ -1,3 +1,4 @@
 mod Totals
+mod Parts
 mod Moves
 mod Shelves

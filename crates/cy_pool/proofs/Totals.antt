@@ -71,6 +71,28 @@ every_set F views pass w mine others j u e = by_place (at_set views pass j w u e
     by_place (inl x) = subst F x.1 mine
     by_place (inr x) = others j u x.0 x.1
 
+total_within : (f h g : View → ℕ) (views : List View) → EveryView (λ u. f u + h u ≤ g u) views → total f views + total h views ≤ total g views
+total_within f h g [] all = omega arith
+total_within f h g (u ∷ us) all =
+    let here : f u + h u ≤ g u = all zero u refl in
+    let rest = total_within f h g us (λ j w there. all (suc j) w there) in
+    omega (arith, here, rest)
+
+-- where f and h together are at most g in every view, so are their totals, with what one view has left
+pub total_covers : (f h g : View → ℕ) (views : List View) (pass : ℕ) (v : View) → EveryView (λ u. f u + h u ≤ g u) views
+    → get_elem? views pass ≡ some v → total f views + total h views + g v ≤ total g views + (f v + h v)
+total_covers f h g [] pass v all e = absurd (some-ne-none v (sym e))
+total_covers f h g (u ∷ us) zero v all e =
+    let same_f : f u ≡ f v = ap f (same_view u v e) in
+    let same_h : h u ≡ h v = ap h (same_view u v e) in
+    let same_g : g u ≡ g v = ap g (same_view u v e) in
+    let rest = total_within f h g us (λ j w there. all (suc j) w there) in
+    omega (arith, same_f, same_h, same_g, rest)
+total_covers f h g (u ∷ us) (suc k) v all e =
+    let here : f u + h u ≤ g u = all zero u refl in
+    let rest = total_covers f h g us k v (λ j w there. all (suc j) w there) e in
+    omega (arith, here, rest)
+
 pub every_push : (F : View → Type 0) (views : List View) (w : View) → EveryView F views → F w → EveryView F (views ++ w ∷ [])
 every_push F views w all mine j u e = by_place (at_snoc views w u j e)
   where

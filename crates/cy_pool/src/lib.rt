@@ -2,6 +2,7 @@
 #![tactic(auto)]
 
 pub mod laws;
+mod limit;
 mod pool;
 mod rule;
 

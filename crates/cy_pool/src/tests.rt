@@ -1,5 +1,5 @@
 // The slips of a pool for two places, and threads that take and give.
-ghost use Rattle.cy_pool.specs.Stocks.{IsIdleSeatOf};
+ghost use Rattle.cy_pool.specs.Stocks.{FindsOne};
 
 use super::*;
 use std::alloc::{AllocError, Global};
@@ -37,19 +37,20 @@ fn take_and_give<H: Wait>(
     mut seat: Seat,
     rounds: u32,
 ) -> u32
-    requires { IsIdleSeatOf pool.now seat }
+    requires { FindsOne pool.now seat }
 {
     let mut alone = 0u32;
     for _ in 0..rounds {
-        if let Some(slip) = pool.take(rt, &mut seat) {
-            if let Some(mark) = busy.get(slip.number() as usize) {
-                if mark.swap(1, Ordering::SeqCst) == 0 {
-                    alone = alone.saturating_add(1);
-                }
-                mark.store(0, Ordering::SeqCst);
+        let Some(slip) = pool.take(rt, &mut seat) else {
+            unreachable!()
+        };
+        if let Some(mark) = busy.get(slip.number() as usize) {
+            if mark.swap(1, Ordering::SeqCst) == 0 {
+                alone = alone.saturating_add(1);
             }
-            pool.give(rt, &mut seat, slip);
+            mark.store(0, Ordering::SeqCst);
         }
+        pool.give(rt, &mut seat, slip);
     }
     alone
 }
@@ -67,6 +68,7 @@ fn marks(alloc: Global, count: usize) -> Result<Vec<AtomicU64>, AllocError> {
 fn four_threads_take_and_give(rt: HostRuntime) -> Result<(), Fail> {
     let handle = &rt;
     let (pool, mut keeper) = Pool::new(rt.alloc(), 4)?;
+    pool.limit(&mut keeper, 4);
     let marks = marks(rt.alloc(), 4)?;
     let one = pool.seat(&mut keeper);
     let two = pool.seat(&mut keeper);
@@ -77,32 +79,37 @@ fn four_threads_take_and_give(rt: HostRuntime) -> Result<(), Fail> {
     let ((a, b), (c, d)) = thread::join(
         &rt,
         move ||
-            requires { IsIdleSeatOf shared.now one × IsIdleSeatOf shared.now two }
+            requires { FindsOne shared.now one × FindsOne shared.now two }
         {
             thread::join(
                 handle,
                 move ||
-                    requires { IsIdleSeatOf shared.now one }
+                    requires { FindsOne shared.now one }
                 { take_and_give(handle, shared, busy, one, 25000) },
                 move ||
-                    requires { IsIdleSeatOf shared.now two }
+                    requires { FindsOne shared.now two }
                 { take_and_give(handle, shared, busy, two, 25000) },
             )
         },
         move ||
-            requires { IsIdleSeatOf shared.now three × IsIdleSeatOf shared.now four }
+            requires { FindsOne shared.now three × FindsOne shared.now four }
         {
             thread::join(
                 handle,
                 move ||
-                    requires { IsIdleSeatOf shared.now three }
+                    requires { FindsOne shared.now three }
                 { take_and_give(handle, shared, busy, three, 25000) },
                 move ||
-                    requires { IsIdleSeatOf shared.now four }
+                    requires { FindsOne shared.now four }
                 { take_and_give(handle, shared, busy, four, 25000) },
             )
         },
     );
     assert_eq!(rt; (a, b, c, d), (25000, 25000, 25000, 25000));
     Ok(())
+}
+
+#[test]
+fn laws_hold() {
+    laws::each_number_once();
 }
