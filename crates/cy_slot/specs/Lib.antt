@@ -1,0 +1,4 @@
+pub mod Slots
+pub mod Reaching
+pub mod Runs
+pub mod Courses
