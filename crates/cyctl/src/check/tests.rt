@@ -19,6 +19,54 @@ const NAMES: [&[u8]; 10] = [
     b"maxThreads",
 ];
 
+/// The text of docs/connector.toml, which docs/settings.py puts here.
+const CONNECTOR: &[u8] = br#"# The settings of a connector, each at its default. Times are milliseconds, sizes bytes.
+# `cyctl check < connector.toml` tells what is read of it.
+
+[connector]
+
+# Connections that are counted at once: 1 to 8192.
+maxConnections = 256
+
+# Bytes of a request's head with its empty line: 256 to 8192.
+maxHttpHeaderSize = 8192
+
+# Fields of a head: 1 to 100.
+maxHeaderCount = 100
+
+# Requests of one connection: 1 to 2147483647, or -1 for no limit.
+maxKeepAliveRequests = 100
+
+# How long a connection may wait for its peer: 1 to 86400000.
+connectionTimeout = 20000
+
+# How long asynchronous processing may take where the component says nothing: 0 to 86400000; 0 is no limit.
+asyncTimeout = 30000
+
+# Bytes of a body that nobody read and that are passed over after its request: 0 to 2147483647.
+maxSwallowSize = 2097152
+
+# Bytes of the trailer section of a body in chunks: 2 to 8192.
+maxTrailerSize = 8192
+
+# Threads that are kept: 1 to 64, and no more than maxThreads.
+minSpareThreads = 4
+
+# Threads that there are at most: 1 to 64.
+maxThreads = 16
+
+# The port at which connections are accepted: 0 to 65535; 0 takes a free one.
+port = 8080
+
+# The rules, in their order: which component, by its number from 0 to 255, serves the paths of which pattern, and whether
+# it may process asynchronously. Without a rule every request is answered 404.
+#
+# [[rule]]
+# pattern = "/"
+# part = 0
+# async = false
+"#;
+
 /// The status of `check` over a text, and what it writes.
 fn checked(alloc: Global, text: &[u8]) -> Result<(u8, Vec<u8>), Fail> {
     let words = vec![in alloc; String::from_str(alloc, "check")?]?;
@@ -272,6 +320,20 @@ fn texts_are_told_in_full(rt: HostRuntime) -> Result<(), Fail> {
         let wanted = lines(rt.alloc(), line.1, line.2)?;
         assert_eq!(rt; written.as_slice(), wanted.as_slice(), "row {row}");
     }
+    Ok(())
+}
+
+/// The file that a user copies has every key at its default, and no rule.
+#[test]
+fn the_file_has_every_default(rt: HostRuntime) -> Result<(), Fail> {
+    let (status, written) = checked(rt.alloc(), CONNECTOR)?;
+    let wanted = lines(
+        rt.alloc(),
+        b"256 8192 100 100 20000 30000 2097152 8192 4 16",
+        b"",
+    )?;
+    assert_eq!(rt; status, 0);
+    assert_eq!(rt; written.as_slice(), wanted.as_slice());
     Ok(())
 }
 
