@@ -12,7 +12,7 @@ import sys
 from generated import DOCS, ROOT, settle
 
 TEST = ROOT / "crates/cyctl/src/check/tests.rt"
-PLACE = re.compile(r'(?<=\nconst CONNECTOR: &\[u8\] = br#").*?(?="#;\n)', re.S)
+PLACE = re.compile(r'(?<=\nconst CONNECTOR: &\[u8\] =\n    br#").*?(?="#;\n)', re.S)
 TABLE = re.compile(r"^\| key of `connector` \|.*?\n\n", re.S | re.M)
 ROW = re.compile(r"^\| `(\w+)` \|[^|]*\|[^|]*\| ([\d,]+) \|", re.M)
 LINE = re.compile(r"^(\w+) = (\d+)$", re.M)

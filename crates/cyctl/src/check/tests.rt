@@ -20,7 +20,8 @@ const NAMES: [&[u8]; 10] = [
 ];
 
 /// The text of docs/connector.toml, which docs/settings.py puts here.
-const CONNECTOR: &[u8] = br#"# The settings of a connector, each at its default. Times are milliseconds, sizes bytes.
+const CONNECTOR: &[u8] =
+    br#"# The settings of a connector, each at its default. Times are milliseconds, sizes bytes.
 # `cyctl check < connector.toml` tells what is read of it.
 
 [connector]
