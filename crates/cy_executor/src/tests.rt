@@ -27,3 +27,8 @@ fn threads_start_by_the_table(rt: HostRuntime) -> Result<(), Fail> {
     }
     Ok(())
 }
+
+#[test]
+fn laws_hold() {
+    laws::threads_start_below_their_bounds();
+}

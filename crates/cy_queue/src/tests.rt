@@ -101,3 +101,8 @@ fn two_threads_put_and_two_take_each_once(rt: HostRuntime) -> Result<(), Fail> {
     }
     Ok(())
 }
+
+#[test]
+fn laws_hold() {
+    laws::queue_keeps_order();
+}
