@@ -1,8 +1,9 @@
 #!/usr/bin/env python3
 """Draws the state table as the definitions have it: docs/state_table.svg from crates/cy_event.
 
-The rows are the lines `row state.X call.Y = Some (..)` of specs/Table.antt. Their order, and that of the columns, is the
-order of the enums State and Call in src/steps.rt. The same definitions give the same picture, byte for byte.
+The rows of a state are the lines `x_row call.Y = Some (..)` of specs/Table.antt, behind which `x_row k = None` stands,
+and `row state.X = x_row` says whose they are. The order of rows and columns is that of the enums State and Call in
+src/steps.rt. The same definitions give the same picture, byte for byte.
 
 Usage: docs/state_table.py [--check]    with --check nothing is written; status 1 where the picture is another one
 """
@@ -15,8 +16,10 @@ TABLE = ROOT / "crates/cy_event/specs/Table.antt"
 STEPS = ROOT / "crates/cy_event/src/steps.rt"
 PICTURE = ROOT / "docs/state_table.svg"
 
-ROW = re.compile(r"row state\.(\w+) call\.(\w+) = Some (?:\((On|Wake) state\.(\w+)\)|(Ends))$")
-REST = "row s k = None"
+CELL = re.compile(r"(\w+_row) call\.(\w+) = Some (?:\((On|Wake) state\.(\w+)\)|(Ends))$")
+REST = re.compile(r"(\w+_row) k = None$")
+WHOSE = re.compile(r"row state\.(\w+) = (\w+_row)$")
+OTHER = re.compile(r"(?!after_)(\w+_)?row ")
 
 LEFT, TOP = 170, 64
 WIDTH, HEIGHT = 136, 30
@@ -49,24 +52,35 @@ def variants(name):
     return re.findall(r"^    (\w+),$", body.group(1), re.M)
 
 
+def lists(calls):
+    """The cells of each list, as call to (kind, next state); and whose lists they are, as list to state."""
+    cells, whose, closed = {}, {}, set()
+    for line in TABLE.read_text(encoding="utf-8").splitlines():
+        cell, rest, owner = CELL.match(line), REST.match(line), WHOSE.match(line)
+        if cell is not None and cell[1] not in closed and cell[2] in calls and cell[2] not in cells.get(cell[1], {}):
+            cells.setdefault(cell[1], {})[cell[2]] = (cell[5] or cell[3], cell[4])
+        elif rest is not None and rest[1] not in closed:
+            closed.add(rest[1])
+        elif owner is not None and owner[2] not in whose:
+            whose[owner[2]] = owner[1]
+        elif OTHER.match(line) is not None:
+            sys.exit("state_table: not a row of the table: " + line)
+    if not set(cells) == closed == set(whose):
+        sys.exit("state_table: a list of rows that no state has, or without a last line")
+    return cells, whose
+
+
 def rows(states, calls):
     """What each filled cell says: (state, call) to (kind, next state)."""
+    of_lists, whose = lists(calls)
+    if sorted(whose.values()) != sorted(states):
+        sys.exit("state_table: not one list of rows for each state")
     cells = {}
-    ended = False
-    for line in TABLE.read_text(encoding="utf-8").splitlines():
-        if line == REST:
-            ended = True
-        elif line.startswith("row "):
-            match = ROW.match(line)
-            if match is None or ended:
-                sys.exit("state_table: not a row of the table: " + line)
-            state, call, kind, to, ends = match.groups()
-            key = (state, call)
-            if state not in states or call not in calls or key in cells or (to is not None and to not in states):
-                sys.exit("state_table: not a row of the table: " + line)
-            cells[key] = (ends or kind, to)
-    if not ended:
-        sys.exit("state_table: no last line for the rest")
+    for name, row in of_lists.items():
+        for call, (kind, to) in row.items():
+            if to is not None and to not in states:
+                sys.exit("state_table: no state " + to)
+            cells[whose[name], call] = (kind, to)
     return cells
 
 

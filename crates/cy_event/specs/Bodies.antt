@@ -97,9 +97,18 @@ in_value max_trailer trailers b =
 abbrev pub due : ℕ → ℕ → BodyStage → BodyStage
 due byte b next = if b == byte then next else stage.Malformed
 
+-- what may come next behind one byte more of the trailers (RFC 9112, 7.1.2), or where nothing more is read
+abbrev next_of_trailers : ℕ → BodyStage → ℕ → BodyStage
+next_of_trailers max_trailer (stage.FieldDue trailers) b = at_field max_trailer trailers b
+next_of_trailers max_trailer (stage.InName trailers) b = behind_name max_trailer trailers b
+next_of_trailers max_trailer (stage.InValue trailers) b = in_value max_trailer trailers b
+next_of_trailers max_trailer (stage.FieldEnds trailers) b =
+    due line_feed b (within_limit max_trailer (trailers + 3) (stage.FieldDue (trailers + 1)))
+next_of_trailers max_trailer stage.LastEnds b = due line_feed b stage.Whole
+next_of_trailers max_trailer s b = s
+
 -- what may come next behind one byte more
 abbrev pub next_stage : ℕ → BodyStage → ℕ → BodyStage
-next_stage max_trailer stage.Whole b = stage.Whole
 next_stage max_trailer (stage.Counted n) b = counted_down n
 next_stage max_trailer stage.SizeDue b =
     if is_digit b 16 then with_digit 0 0 (digit_value b) else stage.Malformed
@@ -110,14 +119,7 @@ next_stage max_trailer (stage.LineEnds size) b = due line_feed b (behind_line si
 next_stage max_trailer (stage.InChunk n) b = chunk_down n
 next_stage max_trailer stage.ChunkEnds b = due carriage_return b stage.ChunkEnded
 next_stage max_trailer stage.ChunkEnded b = due line_feed b stage.SizeDue
-next_stage max_trailer (stage.FieldDue trailers) b = at_field max_trailer trailers b
-next_stage max_trailer (stage.InName trailers) b = behind_name max_trailer trailers b
-next_stage max_trailer (stage.InValue trailers) b = in_value max_trailer trailers b
-next_stage max_trailer (stage.FieldEnds trailers) b =
-    due line_feed b (within_limit max_trailer (trailers + 3) (stage.FieldDue (trailers + 1)))
-next_stage max_trailer stage.LastEnds b = due line_feed b stage.Whole
-next_stage max_trailer stage.Malformed b = stage.Malformed
-next_stage max_trailer stage.TooLong b = stage.TooLong
+next_stage max_trailer s b = next_of_trailers max_trailer s b
 
 -- ---- the fold
 

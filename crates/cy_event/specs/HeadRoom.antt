@@ -45,7 +45,6 @@ pub record KeepsRoom (h : Inside) : Type 0 where
   pub no_query : IsFalse h.has_query → h.query_bytes.items ≡ []
   pub field_room : HEAD_ROOM ≤ vec_capacity h.field_bytes
   pub field_size : vec_len h.field_bytes ≤ HEAD_ROOM
-  pub span_room : FIELD_ROOM ≤ vec_capacity h.spans
-  pub span_count : vec_len h.spans ≤ FIELD_ROOM
+  pub span_room : (FIELD_ROOM ≤ vec_capacity h.spans) × (vec_len h.spans ≤ FIELD_ROOM)
   pub version : h.version ≤ 1
   pub spans : All (IsSpanWithin (vec_len h.field_bytes)) h.spans.items

@@ -8,59 +8,112 @@ use Rattle.cy_event.specs.declared.steps.Call.TheVariants as call
 use Rattle.cy_event.specs.declared.table.Row.{Row}
 use Rattle.cy_event.specs.declared.table.Row.TheVariants.{On, Wake, Ends}
 
+-- ---- the rows, a list for each state
+
+abbrev dispatched_row : Call → Option Row
+dispatched_row call.Start = Some (On state.Starting)
+dispatched_row call.Fail = Some Ends
+dispatched_row call.Run = Some (On state.Dispatched)
+dispatched_row call.Return = Some Ends
+dispatched_row k = None
+
+abbrev starting_row : Call → Option Row
+starting_row call.CompleteOwn = Some (On state.MustComplete)
+starting_row call.CompleteOther = Some (On state.CompletePending)
+starting_row call.DispatchOwn = Some (On state.MustDispatch)
+starting_row call.DispatchOther = Some (On state.DispatchPending)
+starting_row call.Fault = Some (On state.MustError)
+starting_row call.Fail = Some (On state.Error)
+starting_row call.Return = Some (On state.Started)
+starting_row k = None
+
+abbrev started_row : Call → Option Row
+started_row call.CompleteOther = Some (Wake state.Completing)
+started_row call.DispatchOther = Some (Wake state.Dispatching)
+started_row call.Timeout = Some (On state.TimingOut)
+started_row call.Fault = Some (Wake state.Error)
+started_row call.Run = Some (On state.ReadWriteOp)
+started_row k = None
+
+abbrev read_write_op_row : Call → Option Row
+read_write_op_row call.CompleteOwn = Some (On state.MustComplete)
+read_write_op_row call.CompleteOther = Some (On state.CompletePending)
+read_write_op_row call.DispatchOwn = Some (On state.MustDispatch)
+read_write_op_row call.DispatchOther = Some (On state.DispatchPending)
+read_write_op_row call.Fault = Some (On state.MustError)
+read_write_op_row call.Fail = Some (On state.Error)
+read_write_op_row call.Return = Some (On state.Started)
+read_write_op_row k = None
+
+abbrev must_complete_row : Call → Option Row
+must_complete_row call.Fail = Some (On state.Completing)
+must_complete_row call.Return = Some (On state.Completing)
+must_complete_row k = None
+
+abbrev complete_pending_row : Call → Option Row
+complete_pending_row call.Fail = Some (On state.Completing)
+complete_pending_row call.Return = Some (On state.Completing)
+complete_pending_row k = None
+
+abbrev completing_row : Call → Option Row
+completing_row call.Return = Some Ends
+completing_row k = None
+
+abbrev timing_out_row : Call → Option Row
+timing_out_row call.CompleteOwn = Some (On state.Completing)
+timing_out_row call.CompleteOther = Some (On state.Completing)
+timing_out_row call.DispatchOwn = Some (On state.Dispatching)
+timing_out_row call.DispatchOther = Some (On state.Dispatching)
+timing_out_row call.Return = Some (On state.Error)
+timing_out_row k = None
+
+abbrev must_dispatch_row : Call → Option Row
+must_dispatch_row call.Fail = Some (On state.Error)
+must_dispatch_row call.Return = Some (On state.Dispatching)
+must_dispatch_row k = None
+
+abbrev dispatch_pending_row : Call → Option Row
+dispatch_pending_row call.Fail = Some (On state.Error)
+dispatch_pending_row call.Return = Some (On state.Dispatching)
+dispatch_pending_row k = None
+
+abbrev dispatching_row : Call → Option Row
+dispatching_row call.Run = Some (On state.Dispatched)
+dispatching_row k = None
+
+abbrev must_error_row : Call → Option Row
+must_error_row call.CompleteOwn = Some (On state.MustComplete)
+must_error_row call.CompleteOther = Some (On state.MustComplete)
+must_error_row call.DispatchOwn = Some (On state.MustDispatch)
+must_error_row call.DispatchOther = Some (On state.MustDispatch)
+must_error_row call.Fail = Some (On state.Error)
+must_error_row call.Return = Some (On state.Error)
+must_error_row k = None
+
+abbrev error_row : Call → Option Row
+error_row call.CompleteOwn = Some (On state.Completing)
+error_row call.CompleteOther = Some (On state.Completing)
+error_row call.DispatchOwn = Some (On state.Dispatching)
+error_row call.DispatchOther = Some (On state.Dispatching)
+error_row call.Return = Some (On state.Completing)
+error_row k = None
+
 -- The row of a call in a state: the state that it leads to, also with a wake of the connection's worker, or that the
 -- request ends and the state stays. No row: the call is refused.
 abbrev pub row : State → Call → Option Row
-row state.Dispatched call.Start = Some (On state.Starting)
-row state.Dispatched call.Fail = Some Ends
-row state.Dispatched call.Run = Some (On state.Dispatched)
-row state.Dispatched call.Return = Some Ends
-row state.Starting call.CompleteOwn = Some (On state.MustComplete)
-row state.Starting call.CompleteOther = Some (On state.CompletePending)
-row state.Starting call.DispatchOwn = Some (On state.MustDispatch)
-row state.Starting call.DispatchOther = Some (On state.DispatchPending)
-row state.Starting call.Fault = Some (On state.MustError)
-row state.Starting call.Fail = Some (On state.Error)
-row state.Starting call.Return = Some (On state.Started)
-row state.Started call.CompleteOther = Some (Wake state.Completing)
-row state.Started call.DispatchOther = Some (Wake state.Dispatching)
-row state.Started call.Timeout = Some (On state.TimingOut)
-row state.Started call.Fault = Some (Wake state.Error)
-row state.Started call.Run = Some (On state.ReadWriteOp)
-row state.ReadWriteOp call.CompleteOwn = Some (On state.MustComplete)
-row state.ReadWriteOp call.CompleteOther = Some (On state.CompletePending)
-row state.ReadWriteOp call.DispatchOwn = Some (On state.MustDispatch)
-row state.ReadWriteOp call.DispatchOther = Some (On state.DispatchPending)
-row state.ReadWriteOp call.Fault = Some (On state.MustError)
-row state.ReadWriteOp call.Fail = Some (On state.Error)
-row state.ReadWriteOp call.Return = Some (On state.Started)
-row state.MustComplete call.Fail = Some (On state.Completing)
-row state.MustComplete call.Return = Some (On state.Completing)
-row state.CompletePending call.Fail = Some (On state.Completing)
-row state.CompletePending call.Return = Some (On state.Completing)
-row state.Completing call.Return = Some Ends
-row state.TimingOut call.CompleteOwn = Some (On state.Completing)
-row state.TimingOut call.CompleteOther = Some (On state.Completing)
-row state.TimingOut call.DispatchOwn = Some (On state.Dispatching)
-row state.TimingOut call.DispatchOther = Some (On state.Dispatching)
-row state.TimingOut call.Return = Some (On state.Error)
-row state.MustDispatch call.Fail = Some (On state.Error)
-row state.MustDispatch call.Return = Some (On state.Dispatching)
-row state.DispatchPending call.Fail = Some (On state.Error)
-row state.DispatchPending call.Return = Some (On state.Dispatching)
-row state.Dispatching call.Run = Some (On state.Dispatched)
-row state.MustError call.CompleteOwn = Some (On state.MustComplete)
-row state.MustError call.CompleteOther = Some (On state.MustComplete)
-row state.MustError call.DispatchOwn = Some (On state.MustDispatch)
-row state.MustError call.DispatchOther = Some (On state.MustDispatch)
-row state.MustError call.Fail = Some (On state.Error)
-row state.MustError call.Return = Some (On state.Error)
-row state.Error call.CompleteOwn = Some (On state.Completing)
-row state.Error call.CompleteOther = Some (On state.Completing)
-row state.Error call.DispatchOwn = Some (On state.Dispatching)
-row state.Error call.DispatchOther = Some (On state.Dispatching)
-row state.Error call.Return = Some (On state.Completing)
-row s k = None
+row state.Dispatched = dispatched_row
+row state.Starting = starting_row
+row state.Started = started_row
+row state.ReadWriteOp = read_write_op_row
+row state.MustComplete = must_complete_row
+row state.CompletePending = complete_pending_row
+row state.Completing = completing_row
+row state.TimingOut = timing_out_row
+row state.MustDispatch = must_dispatch_row
+row state.DispatchPending = dispatch_pending_row
+row state.Dispatching = dispatching_row
+row state.MustError = must_error_row
+row state.Error = error_row
 
 -- the state after a call; a call without a row leaves it
 abbrev pub after_row : State → Option Row → State

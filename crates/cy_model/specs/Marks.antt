@@ -30,48 +30,29 @@ pub data Side : Type 0 where
   output_side : Side
 
 pub data Mark : Type 0 where
-  -- the connection was admitted; its input has ended
-  opened : Mark
-  ended : Mark
-  -- these bytes came; the socket took so many
-  came : List ℕ → Mark
-  sent : ℕ → Mark
-  -- a head was taken up; one was refused with a status, and whether its method was HEAD
+  -- the connection was admitted; its input has ended; it was broken; a cause to close it was set
+  opened ended broken : Mark
+  caused : CloseCause → Mark
+  -- these bytes came; these were accepted as content of the answer
+  came put : List ℕ → Mark
+  -- a head was taken up; one was refused with a status, and whether its method was HEAD; the request has ended
   began : TakenUp → Mark
   refused : ℕ → Bool → Mark
+  over : Mark
   -- an accepted call of the state table; a dispatch may name a component
   called : Call → Option ℕ → Mark
-  -- a callback began, was parked, is over
+  -- a callback began; it was parked, or readiness was answered false
   started : Job → Mark
-  parked : Side → Mark
-  back : Mark
-  -- so much content was delivered; its end was told
-  given : ℕ → Mark
-  end_given : Mark
-  -- a listener with this tag was added; a timeout was set
-  listened : ℕ → Mark
-  timeout_set : ℕ → Mark
-  -- the read listener was set, the write listener; readiness was answered false
-  read_listener_set : Mark
-  write_listener_set : Mark
-  not_ready : Side → Mark
-  -- of the answer the status was set, a field was added, the length was set; all of it was reset
-  status_set : ℕ → Mark
+  parked not_ready : Side → Mark
+  -- a callback is over; the end of the content was told; the read listener was set, the write listener
+  back end_given read_listener_set write_listener_set : Mark
+  -- the socket took so many bytes; so much content was delivered; a listener with this tag was added; a timeout was set
+  sent given listened timeout_set : ℕ → Mark
+  -- of the answer the status was set, the length was set; an error answer of this status was put in its place
+  status_set length_set error_answer : ℕ → Mark
+  -- a field was added; all of the answer was reset; a flush had something to cut, or nothing; the answer was broken off
   field_added : Field → Mark
-  length_set : ℕ → Mark
-  answer_reset : Mark
-  -- content was accepted; a flush had something to cut, or nothing
-  put : List ℕ → Mark
-  flushed : Mark
-  nothing_to_flush : Mark
-  -- an error answer of this status was put in place; the answer was broken off
-  error_answer : ℕ → Mark
-  aborted : Mark
-  -- the request has ended
-  over : Mark
-  -- a cause to close was set; the connection was broken
-  caused : CloseCause → Mark
-  broken : Mark
+  answer_reset flushed nothing_to_flush aborted : Mark
 
 abbrev pub Trace : Type 0
 Trace = List (ℕ × Mark)

@@ -11,7 +11,7 @@ use Rattle.cy_model.specs.Replies.{Replied, plain, replied_in}
 use Rattle.cy_model.specs.Settling.{rested, taken_up}
 use Rattle.cy_proc.specs.Lines.{LineParts, Represents, line_parts}
 use Rattle.cy_proc.specs.ProcessorAnswers.{Answers, Serves, TakesUp, is_ended}
-use Rattle.cy_proc.specs.Processors.{IsIdle, ProcessorParts, StandsFor, fresh_processor, is_free_at, is_open_at, processor_parts, request_folds}
+use Rattle.cy_proc.specs.Processors.{ProcessorParts, StandsFor, fresh_processor, is_free_at, is_open_at, processor_parts, request_folds}
 use Rattle.cy_slot.specs.declared.conn.Conn.{Conn}
 use Rattle.cy_slot.specs.declared.slot.TheConstants.{GREATEST_TENANCY}
 use Rattle.cy_slot.specs.Slots.{SlotParts, fresh_slot, line_in, line_of, released, with_state}

@@ -1,6 +1,6 @@
 -- Over every list of calls a slot serves its tenants one after another, each in his time.
-use Rattle.std.proofs.Common.{◌≡◌, ℕ, ◌+◌, ◌<◌, Bool, true, false, not, ◌&&◌, cond, eqb, List, [], ◌∷◌, Option, Some, None, is_some, refl, ap, sym, ◌∙◌, subst, arith, inl, inr, ◌⊎◌}
-use Rattle.std.proofs.lemmas.Bool.{cases_order, cases_Bool, eq-eqb, eqb-true, ne_eqb, false≢true, true≢false}
+use Rattle.std.proofs.Common.{◌≡◌, ℕ, ◌<◌, Bool, true, false, not, ◌&&◌, cond, eqb, List, [], ◌∷◌, Option, Some, None, is_some, refl, ap, sym, ◌∙◌, subst, arith, inl, inr, ◌⊎◌}
+use Rattle.std.proofs.lemmas.Bool.{cases_order, eq-eqb, eqb-true, ne_eqb, false≢true}
 use Rattle.cy_event.specs.declared.limits.Limits.{Limits}
 use Rattle.cy_proc.specs.declared.processor.Stage.{Stage}
 use Rattle.cy_proc.specs.declared.processor.Stage.TheVariants as stage
@@ -9,7 +9,7 @@ use Rattle.cy_slot.specs.declared.conn.Conn.{Conn}
 use Rattle.cy_slot.specs.declared.slot.TheConstants.{GREATEST_TENANCY}
 use Rattle.cy_slot.specs.Slots.{SlotParts, fresh_slot, released}
 use Rattle.cy_slot.specs.Reaching.{bound_at, has_head_due, may_open, reaches, tenant_after, who_is}
-use Rattle.cy_slot.specs.Runs.{Affects, AreInPlace, Effect, IsUse, SlotServesItsTenants, Turn, effect_of, goes_on, ends, had_bind, had_end, had_open, has_effect, is_ending, is_live, nothing, releases, tenancy_after, was_bound, was_opened, was_released, was_stepped}
+use Rattle.cy_slot.specs.Runs.{Affects, AreInPlace, Effect, IsUse, SlotServesItsTenants, Turn, goes_on, ends, had_bind, had_end, had_open, has_effect, is_ending, is_live, nothing, tenancy_after, was_bound, was_opened, was_released, was_stepped}
 use Rattle.cy_slot.proofs.Histories.{History, at_first, moved, when_bound, when_idle_open, when_idle_step, when_opened, when_released, when_stepped}
 
 -- ---- stages and effects

@@ -1,6 +1,5 @@
 -- What a tenant's calls are answered, which doesn't depend on who sat in the slot before him. The newest comes first.
 use Rattle.std.specs.Prelude.{◌≡◌, ◌<◌, ℕ, ◌+◌, max, Bool, true, false, not, if◌then◌else◌, List, [], ◌∷◌}
-use Rattle.cy_event.specs.declared.limits.Limits.{Limits}
 use Rattle.cy_event.specs.declared.steps.Act.{Act}
 use Rattle.cy_event.specs.declared.steps.Event.{Event}
 use Rattle.cy_event.specs.declared.steps.Reply.{Reply}

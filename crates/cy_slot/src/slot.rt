@@ -8,7 +8,7 @@ ghost use Rattle.cy_proc.specs.ProcessorAnswers.{AnswersEachAct, AnswersEachEven
 ghost use Rattle.cy_proc.specs.ProcessorChanges.{job_at};
 ghost use Rattle.cy_proc.specs.Processors.{has_request_at, is_free_at, is_open_at, is_over_at, part_at};
 ghost use Rattle.cy_proc.specs.LineChanges.{work_of};
-ghost use Rattle.cy_rings.specs.declared.kit.TheConstants.{OUT_CAPACITY};
+ghost use Rattle.cy_rings.specs.declared.kit.TheConstants.{IN_CAPACITY, OUT_CAPACITY};
 ghost use Rattle.cy_slot.specs.Slots.{SlotParts, cause_in, fresh_slot, job_in, line_in, released, with_state};
 ghost use Rattle.cy_slot.specs.Runs.{IsTurn, effect_of, was_bound, was_opened, was_released, was_stepped};
 ghost use Rattle.cy_slot.specs.Reaching.{KeepsAllElse, after_bind, bound_by, lent_by, may_open, open_reply, reaches, room_in, unsent_in};
@@ -301,7 +301,8 @@ impl Slot {
 
     /// How many bytes of the input the tenant's line would take now: 0 where his request isn't open.
     pub fn in_room(&self, tenancy: u64) -> usize
-        ensures { result ≡ room_in tenancy self.now }
+        ensures room { result ≡ room_in tenancy self.now }
+        ensures held { reaches tenancy self.now ≡ true → length (line_in self.now).unread + result ≤ IN_CAPACITY }
     {
         match &self.tenant {
             Some(conn) if self.is_reached(tenancy) => conn.line.in_room(),
@@ -312,6 +313,7 @@ impl Slot {
     /// How many bytes of the tenant wait for the socket: 0 where his request isn't open.
     pub fn unsent_len(&mut self, tenancy: u64) -> usize
         ensures count { result ≡ length (unsent_in tenancy self.old) }
+        ensures within { result ≤ OUT_CAPACITY }
         ensures same { self.new ≡ self.old }
     {
         match &self.tenant {
