@@ -316,6 +316,14 @@ impl Slot {
         ensures within { result ≤ OUT_CAPACITY }
         ensures same { self.new ≡ self.old }
     {
+        self.waiting_len(tenancy)
+    }
+
+    /// The same of a slot that is only lent.
+    pub fn waiting_len(&self, tenancy: u64) -> usize
+        ensures count { result ≡ length (unsent_in tenancy self.now) }
+        ensures within { result ≤ OUT_CAPACITY }
+    {
         match &self.tenant {
             Some(conn) if self.is_reached(tenancy) => conn.line.unsent_len(),
             _ => 0,

@@ -1,0 +1,77 @@
+-- A connector to which nothing has happened stands for no steps.
+use Rattle.std.proofs.Common.{◌≡◌, ◌<◌, ◌≤◌, ℕ, ◌*◌, ◌↔◌, Bool, false, cond, List, [], All, get_or, length, replicate, Err, Result, Option, Some, None, is_some, refl, sym, ap, ◌∙◌, subst, arith, ◌⊎◌, inl, inr}
+use Rattle.std.specs.Prelude.{slice_get}
+use Rattle.std.proofs.lemmas.Bool.{cases_lt}
+use Rattle.std.proofs.lemmas.List.{get_or-replicate, get_or_past, length-replicate}
+use Rattle.std.proofs.lemmas.List.Elements.{All-get_or}
+use Rattle.std.proofs.lemmas.Option.{slice_get-get_or, slice_get_within}
+use Rattle.std.proofs.lemmas.List.Folds.{sum_by-replicate}
+use Rattle.cy_latch.specs.Numbers.{count_out, is_out}
+use Rattle.cy_map.specs.declared.fault.MapFault.{MapFault}
+use Rattle.cy_map.specs.declared.fault.MapFault.TheVariants as map_fault
+use Rattle.cy_map.specs.declared.rule.Rule.{Rule}
+use Rattle.cy_map.specs.Refusals.{IsFirstRepeat, first_bad}
+use Rattle.cy_world.specs.Answered.{IsVacant, SeatParts}
+use Rattle.cy_world.specs.Faults.{IsFaultOf, fault_by}
+use Rattle.cy_world.specs.Worlds.{IsPlaceOf, StandsFor}
+use Rattle.cy_world.specs.declared.world.Admitted.{Admitted}
+use Rattle.cy_world.specs.declared.settings.Settings.{Settings}
+use Rattle.cy_world.proofs.Retiring.{no_who}
+use Rattle.cy_world.proofs.Stepping.{some}
+
+none_out : (limit i : ℕ) → is_out (replicate limit false) i ≡ false
+none_out limit i = by_bound (cases_lt i limit)
+  where
+    by_bound : (i < limit) ⊎ (limit ≤ i) → is_out (replicate limit false) i ≡ false
+    by_bound (inl below) = get_or-replicate limit i false false below
+    by_bound (inr past) = get_or_past (replicate limit false) i false (let size = length-replicate limit false in omega (arith, size, past))
+
+none_counted : (limit : ℕ) → count_out (replicate limit false) ≡ 0
+none_counted limit =
+    let none : count_out (replicate limit false) ≡ limit * 0 = sum_by-replicate (λ (b : Bool). cond b 1 0) limit false in
+    omega (arith, none)
+
+each_vacant : (s : Settings) (seats : List SeatParts) → All (IsVacant s.limits) seats → (i : ℕ) (seat : SeatParts) → slice_get seats i ≡ Some seat → IsVacant s.limits seat
+each_vacant s seats all i seat there =
+    let below = slice_get_within seats i seat there in
+    let is : get_or seats i seat ≡ seat = some (get_or seats i seat) seat (sym (slice_get-get_or seats i seat below) ∙ there) in
+    subst (IsVacant s.limits) is (All-get_or (IsVacant s.limits) seats i seat below all)
+
+vacant_place : (s : Settings) (i : ℕ) (out : Bool) (seat : SeatParts) → out ≡ false → IsVacant s.limits seat → IsPlaceOf s i out seat
+vacant_place s i out seat free v = record {
+  held = ap is_some v.nobody ∙ sym free;
+  share = λ w h. absurd (no_who seat.place.who w v.nobody h);
+  kept = v.kept;
+  vacant = λ e. v;
+}
+
+begins : (s : Settings) (seats : List SeatParts) → All (IsVacant s.limits) seats → length seats ≡ s.limits.max_connections
+    → StandsFor [] (record { settings = s; latch = replicate s.limits.max_connections false; seats = seats; book = [] })
+begins s seats vacant size = record {
+  moment = refl;
+  distinct = tt;
+  each = λ c. tt;
+  counted = none_counted s.limits.max_connections;
+  places = record {
+    each = λ i seat there. vacant_place s i (is_out (replicate s.limits.max_connections false) i) seat (none_out s.limits.max_connections i) (each_vacant s seats vacant i seat there);
+    seats = size;
+    latch = length-replicate s.limits.max_connections false;
+  };
+}
+
+pub begins_as : (s : Settings) (seats : List SeatParts) (latch : List Bool) (book : List (ℕ × Admitted)) → All (IsVacant s.limits) seats → length seats ≡ s.limits.max_connections
+    → latch ≡ replicate s.limits.max_connections false → book ≡ [] → StandsFor [] (record { settings = s; latch = latch; seats = seats; book = book })
+begins_as s seats latch book vacant size counted_none empty =
+    subst (λ (l : List Bool). StandsFor [] (record { settings = s; latch = l; seats = seats; book = book })) (sym counted_none)
+    (subst (λ (b : List (ℕ × Admitted)). StandsFor [] (record { settings = s; latch = replicate s.limits.max_connections false; seats = seats; book = b })) (sym empty) (begins s seats vacant size))
+
+-- ---- why there is none
+
+-- what the mapper says of the rules
+pub fault_is : (rules : List Rule) (r : Result (List Rule) MapFault) (f : MapFault) → r ≡ Err f
+    → ((i : ℕ) → (r ≡ Err (map_fault.BadPattern i)) ↔ (first_bad rules ≡ Some i))
+    → ((i j : ℕ) → (r ≡ Err (map_fault.RuleTwice i j)) ↔ ((first_bad rules ≡ None) × IsFirstRepeat rules i j))
+    → IsFaultOf rules (fault_by f)
+fault_is rules r (map_fault.BadPattern i) is bad twice = (bad i).0 is
+fault_is rules r (map_fault.RuleTwice i j) is bad twice = (twice i j).0 is
+fault_is rules r map_fault.NoMemory is bad twice = tt

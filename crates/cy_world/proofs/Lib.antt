@@ -1,0 +1,14 @@
+pub mod Lives
+pub mod Places
+pub mod TakingUp
+pub mod Written
+pub mod Keeping
+pub mod Counting
+pub mod Elements
+pub mod Stepping
+pub mod Retiring
+pub mod Admitting
+pub mod Passing
+pub mod Owned
+pub mod Beginning
+pub mod Telling

@@ -1,0 +1,6 @@
+pub mod Places
+pub mod Lives
+pub mod Answered
+pub mod Worlds
+pub mod Told
+pub mod Faults

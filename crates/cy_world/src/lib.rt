@@ -1,0 +1,13 @@
+//! A connector over recycled slots: any number of connections, each stepped by its number.
+#![tactic(auto)]
+
+mod fault;
+mod place;
+mod report;
+mod seat;
+mod settings;
+mod world;
+
+pub use fault::WorldFault;
+
+pub use world::{Replied, World};
