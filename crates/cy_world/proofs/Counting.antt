@@ -29,7 +29,7 @@ none_behind n d entries others rest before next none =
       | false ↦ next
     ] none
 
-still_none : (t c d : ℕ) (e : Entry) (hs : List History) → find_own d hs ≡ None → find_own d (add_own t c e hs) ≡ None
+pub still_none : (t c d : ℕ) (e : Entry) (hs : List History) → find_own d hs ≡ None → find_own d (add_own t c e hs) ≡ None
 still_none t c d e [] none = refl
 still_none t c d e (h ∷ hs) none =
     elim (h.number == c) as (λ v. (if (cond v (with_entry t e h) h).number == d then Some (cond v (with_entry t e h) h).entries else find_own d (add_own t c e hs)) ≡ None) [
@@ -45,7 +45,7 @@ distinct_own t c e (h ∷ hs) distinct =
       | false ↦ (still_none t c h.number e hs distinct.0, distinct_own t c e hs distinct.1)
     ]
 
-none_last : (d : ℕ) (h : History) (hs : List History) → h.number ≢ d → find_own d hs ≡ None → find_own d (hs ++ h ∷ []) ≡ None
+pub none_last : (d : ℕ) (h : History) (hs : List History) → h.number ≢ d → find_own d hs ≡ None → find_own d (hs ++ h ∷ []) ≡ None
 none_last d h [] away none = ap (λ (v : Bool). if v then Some h.entries else None) (ne_eqb h.number d away)
 none_last d h (g ∷ gs) away none =
     elim (g.number == d) as (λ v. (if v then Some g.entries else find_own d gs) ≡ None → (if v then Some g.entries else find_own d (gs ++ h ∷ [])) ≡ None) [

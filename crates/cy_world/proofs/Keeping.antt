@@ -182,7 +182,7 @@ open_told ks T cs progress o called same kept =
     ∙ sym (map-append chart_of (ended_charts T) (calls T ∷ []))
     ∙ ap (map chart_of) (sym (ap (λ (v : Bool). if v then ended_charts T ++ calls T ∷ [] else ended_charts T) o))
 
-charts_told : (v : Bool) (T : Trace) (cs : List (List ChartItem)) (q : ProcessorParts) → is_open_at q.stage ≡ v → StandsFor T q → cs ≡ ended_items T → (if v then cs ++ q.progress.chart ∷ [] else cs) ≡ map chart_of (charts T)
+pub charts_told : (v : Bool) (T : Trace) (cs : List (List ChartItem)) (q : ProcessorParts) → is_open_at q.stage ≡ v → StandsFor T q → cs ≡ ended_items T → (if v then cs ++ q.progress.chart ∷ [] else cs) ≡ map chart_of (charts T)
 charts_told true T cs q o s same =
     let w = stands_request T q o s in
     open_told (calls T) T cs q.progress (stands_open T q s ∙ o) refl (ap (λ (k : ProcessorParts). k.progress) w.same) same

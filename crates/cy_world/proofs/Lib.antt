@@ -12,3 +12,6 @@ pub mod Passing
 pub mod Owned
 pub mod Beginning
 pub mod Telling
+pub mod Charts
+pub mod Numbers
+pub mod Reporting

@@ -4,3 +4,4 @@ pub mod Answered
 pub mod Worlds
 pub mod Told
 pub mod Faults
+pub mod Reporting

@@ -3,11 +3,12 @@
 
 mod fault;
 mod place;
-mod report;
 mod seat;
 mod settings;
 mod world;
 
 pub use fault::WorldFault;
+pub use world::{Replied, World, run};
 
-pub use world::{Replied, World};
+#[cfg(test)]
+mod tests;

@@ -103,7 +103,8 @@ impl Place {
 
     /// The slot.
     pub fn slot(&self) -> &Slot
-        ensures { result.now ≡ self.now.slot }
+        ensures slot { result.now ≡ self.now.slot }
+        ensures processor { result.now.processor ≡ self.now.live.processor }
     {
         &self.slot
     }

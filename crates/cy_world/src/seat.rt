@@ -112,7 +112,8 @@ impl Seat {
 
     /// The slot of the place.
     pub fn slot(&self) -> &Slot
-        ensures { result.now ≡ self.now.place.slot }
+        ensures slot { result.now ≡ self.now.place.slot }
+        ensures processor { result.now.processor ≡ self.now.place.live.processor }
     {
         self.place.slot()
     }

@@ -18,6 +18,8 @@ ghost use Rattle.cy_world.specs.Told.{SitsIn, replied, request_count, slot_at, t
 ghost use Rattle.cy_world.specs.Places.{HasRoom};
 ghost use Rattle.cy_world.specs.Worlds.{CanTake, IsOwnOf, PutsDown, Retires, StandsFor, TakesStep, find_in};
 
+mod report;
+
 use crate::fault::WorldFault;
 use crate::seat::{Account, Seat, Tally};
 use crate::settings::Settings;
@@ -27,6 +29,7 @@ use cy_latch::{Enter, LatchBook};
 use cy_map::{Mapper, Rule};
 use cy_rings::OUT_CAPACITY;
 use cy_slot::Slot;
+pub use report::run;
 use std::alloc::Global;
 use std::collections::BTreeMap;
 use std::marker::Model;

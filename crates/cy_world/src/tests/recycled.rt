@@ -1,0 +1,240 @@
+// What a connection gets behind others in the places that served them: what it gets alone.
+use super::*;
+
+/// What a connection does from its admission until it is gone. Each leaves something else in what
+/// serves it: a head, its fields, a query; content; bytes that weren't read, and bytes that weren't
+/// sent; the end of the input; a cause.
+pub(super) const COURSES: [&str; 8] = [
+    "admit
+in GET /a HTTP/1.1~Host: a~~
+seen
+run
+write hello
+return
+end
+took 78
+told",
+    "admit
+in GET /b/long/path?and=query HTTP/1.1~Host: somebody~Cookie: secret~Connection: close~~
+seen
+run
+write a long content that another may not see
+write , and more of it
+return
+told
+took 100
+took 1000
+told",
+    "admit
+in GET /a HTTP/1.0~~GET /b/not/read?by=anybody HTTP/1.1~Host: ano
+seen
+run
+write last
+return
+in ther~~
+out
+took 1000",
+    "admit
+in GET /c?q HTTP/1.1~Host: a~~GET /c HTTP/1.1~Host: b~~GET /a HT
+told
+in TP/1.1~Host: c~~
+seen
+took 100
+run
+return
+took 1000
+end
+told",
+    "admit
+in GET /a?q HTTP/9.9~Host: a~~
+told
+run
+took 1000",
+    "admit
+in GET /unfinished?query HTTP/1.1~Host: some
+run
+write too early
+return
+end
+told",
+    "admit
+end
+told",
+    "admit
+in GET /b HTTP/1.1~Host: a~~
+run
+end
+write answered behind the end
+seen
+return
+took 80
+told
+took 80",
+];
+
+/// Takes the step of a line, if there is one, and appends what it is answered.
+pub(super) fn go_on(
+    rt: &impl Abort,
+    alloc: Global,
+    world: &mut World,
+    conn: u64,
+    line: Option<&str>,
+    answers: &mut Vec<u8>,
+) -> Result<(), Fail> {
+    if let Some(line) = line {
+        answers.extend_from_slice(&answer(rt, alloc, world, conn, line)?)?;
+        answers.extend_from_slice(b"\n")?;
+    }
+    Ok(())
+}
+
+/// Appends all that is told of a connection.
+pub(super) fn tell(
+    alloc: Global,
+    world: &World,
+    conn: u64,
+    answers: &mut Vec<u8>,
+) -> Result<(), Fail> {
+    answers.extend_from_slice(&numbers(alloc, world, conn)?)?;
+    answers.extend_from_slice(&out(alloc, world, conn)?)?;
+    Ok(())
+}
+
+/// Takes the whole course of a connection: what it is answered, and what is told of it in the end.
+pub(super) fn served(
+    rt: &impl Abort,
+    alloc: Global,
+    world: &mut World,
+    conn: u64,
+    course: &str,
+) -> Result<Vec<u8>, Fail> {
+    let mut answers = Vec::new(alloc);
+    for line in course.lines() {
+        go_on(rt, alloc, world, conn, Some(line), &mut answers)?;
+    }
+    tell(alloc, world, conn, &mut answers)?;
+    Ok(answers)
+}
+
+/// What a connection gets that is alone.
+pub(super) fn alone(rt: &impl Abort, alloc: Global, course: &str) -> Result<Vec<u8>, Fail> {
+    let mut world = world(alloc, 1)?;
+    let answers = served(rt, alloc, &mut world, 1, course)?;
+    assert_eq!(rt; world.counted(), 0, "{course}");
+    Ok(answers)
+}
+
+/// What each course gets that is alone.
+pub(super) fn each_alone(rt: &impl Abort, alloc: Global) -> Result<Vec<Vec<u8>>, Fail> {
+    let mut all = Vec::new(alloc);
+    for course in COURSES {
+        all.push(alone(rt, alloc, course)?)?;
+    }
+    Ok(all)
+}
+
+#[test]
+fn the_next_connection_finds_nothing_of_the_former(rt: HostRuntime) -> Result<(), Fail> {
+    let alloc = rt.alloc();
+    for next in COURSES {
+        let wanted = alone(&rt, alloc, next)?;
+        for former in COURSES {
+            let mut world = world(alloc, 1)?;
+            let _former = served(&rt, alloc, &mut world, 1, former)?;
+            let got = served(&rt, alloc, &mut world, 2, next)?;
+            assert!(rt; got == wanted, "{next} behind {former}");
+        }
+    }
+    Ok(())
+}
+
+const FIRST: &str = "1 admit => Entered
+1 in GET /a HTTP/1.1~Host: a~~ => Taken 28
+1 run => Begun service 0
+1 return => Done
+1 place => None
+1 end => Done
+1 took 1000 => Taken 73
+1 counted => 0
+2 admit => Entered
+2 in GET /b HTTP/1.1~Host: a~~ => Taken 28
+2 tenant => 1
+2 seen => GET/b no queryHosta 1 for 7";
+
+const BESIDE: &str = "3 admit => Entered
+3 in GET /a HTTP/1.1~Host: a~~ => Taken 28
+3 tenant => 0
+4 admit => Full 2
+2 run => Begun service 7
+2 return => Done
+2 in GET /a?again HTTP/1.1~Host: b~~ => Taken 34
+2 tenant => 2
+2 seen => GET/aagainHostb 1 for 0
+2 took 1000 => Taken 73
+2 run => Begun service 0
+2 return => Done
+2 end => Done
+2 took 1000 => Taken 73
+5 admit => Entered
+5 in GET /b HTTP/1.1~Host: a~~ => Taken 28
+5 tenant => 3
+5 seen => GET/b no queryHosta 1 for 7
+3 seen => GET/a no queryHosta 1 for 0";
+
+#[test]
+fn a_place_serves_one_connection_behind_the_other(rt: HostRuntime) -> Result<(), Fail> {
+    let alloc = rt.alloc();
+    let mut world = world(alloc, 2)?;
+    expect(&rt, alloc, &mut world, FIRST)?;
+    let place = world.place(2);
+    expect(&rt, alloc, &mut world, BESIDE)?;
+    assert_eq!(rt; world.place(5), place);
+    assert!(rt; world.place(3).is_some());
+    assert!(rt; world.place(3) != place);
+    assert_eq!(rt; world.place(2), None);
+    Ok(())
+}
+
+/// How many pairs of connections pass through the two slots.
+const PAIRS: usize = 1_000;
+
+/// Two connections at a time: the one takes four steps before the other, and then they go by turns.
+fn pass_two(
+    rt: &impl Abort,
+    alloc: Global,
+    world: &mut World,
+    conns: (u64, u64),
+    courses: (&str, &str),
+) -> Result<[Vec<u8>; 2], Fail> {
+    let mut one = Vec::new(alloc);
+    let mut other = Vec::new(alloc);
+    let mut rest = courses.0.lines();
+    for _ in 0..4 {
+        go_on(rt, alloc, world, conns.0, rest.next(), &mut one)?;
+    }
+    let mut lines = courses.1.lines();
+    for _ in 0..12 {
+        go_on(rt, alloc, world, conns.1, lines.next(), &mut other)?;
+        go_on(rt, alloc, world, conns.0, rest.next(), &mut one)?;
+    }
+    tell(alloc, world, conns.0, &mut one)?;
+    tell(alloc, world, conns.1, &mut other)?;
+    Ok([one, other])
+}
+
+#[test]
+fn many_connections_pass_through_two_slots(rt: HostRuntime) -> Result<(), Fail> {
+    let alloc = rt.alloc();
+    let alone = each_alone(&rt, alloc)?;
+    let mut world = world(alloc, 2)?;
+    for pair in 0..PAIRS {
+        let (i, j) = (pair % 8, pair / 8 % 8);
+        let first = pair as u64 * 2;
+        let courses = (COURSES[i], COURSES[j]);
+        let [one, other] = pass_two(&rt, alloc, &mut world, (first, first + 1), courses)?;
+        assert!(rt; alone.get(i) == Some(&one), "one of pair {pair}");
+        assert!(rt; alone.get(j) == Some(&other), "the other of pair {pair}");
+    }
+    assert_eq!(rt; world.counted(), 0);
+    Ok(())
+}
