@@ -12,15 +12,15 @@ use Rattle.cy_script.specs.declared.script.Script.{Script}
 use Rattle.cy_settings.specs.declared.limit.Limit.{Limit}
 use Rattle.cy_script.specs.declared.statements.Statement.{Statement}
 use Rattle.cy_script.specs.declared.statements.Statement.TheVariants as statement
-use Rattle.cy_script.specs.Conditions.{AreSteps}
+use Rattle.cy_script.specs.Conditions.{is_next_step, AreSteps}
 use Rattle.cy_script.specs.Lines.{IsWritten}
-use Rattle.cy_script.specs.Reading.{after_lines, after_statement, are_steps, before_steps, statement_of}
+use Rattle.cy_script.specs.Reading.{after_lines, after_statement, before_steps, statement_of}
 use Rattle.cy_script.specs.Settings.{with_setting}
 use Rattle.cy_script.specs.Spelling.{is_for_the_front, limits_after, rule_of, step_of, IsInOrder}
 use Rattle.cy_script.proofs.FieldsRead.{bind_some}
 use Rattle.cy_settings.specs.Rules.{is_next_rule, AreRules}
 use Rattle.cy_settings.proofs.RuleLists.{next_again, rules_kept}
-use Rattle.cy_script.proofs.StepLists.{front_allowed, steps_are}
+use Rattle.cy_script.proofs.StepLists.{next_step, steps_kept}
 use Rattle.cy_script.proofs.StatementLines.{statement_again, statement_is}
 use Rattle.cy_script.proofs.Words.{some_then}
 
@@ -192,10 +192,10 @@ statements_follow (statement.Rule rule ∷ statements) script end allowed h =
     record { in_order = rule_in_order script.steps rule statements (placed.0, rest.in_order); says = rest.says ∙ said_rule script rule statements; allowed = rest.allowed }
 statements_follow (statement.Step s ∷ statements) script end allowed h =
     let made = record script { steps = script.steps ++ s ∷ [] } in
-    let next = bind_some (cond (are_steps (script.steps ++ s ∷ [])) (Some made) None) (λ n. after_statements n statements) end h in
-    let fits = some_then (are_steps (script.steps ++ s ∷ [])) (Some made) next.0 next.1 in
+    let next = bind_some (cond (is_next_step script.steps s) (Some made) None) (λ n. after_statements n statements) end h in
+    let fits = some_then (is_next_step script.steps s) (Some made) next.0 next.1 in
     let same : next.0 ≡ made = cc fits.1 in
-    let rest = statements_follow statements made end (record { rules = allowed.rules; steps = steps_are (script.steps ++ s ∷ []) fits.0 }) (subst (λ (n : Script). after_statements n statements ≡ Some end) same next.2) in
+    let rest = statements_follow statements made end (record { rules = allowed.rules; steps = steps_kept script.steps s allowed.steps fits.0 }) (subst (λ (n : Script). after_statements n statements ≡ Some end) same next.2) in
     record { in_order = step_in_order script.steps s statements rest.in_order; says = rest.says ∙ said_step script s statements; allowed = rest.allowed }
 
 -- behind a script that is told, statements go on
@@ -227,6 +227,6 @@ follow_again (statement.Rule rule ∷ statements) script order rules steps =
 follow_again (statement.Step s ∷ statements) script order rules steps =
     let made = record script { steps = script.steps ++ s ∷ [] } in
     let more = subst AreSteps (sym (append_assoc script.steps (s ∷ []) (filter_map step_of statements))) steps in
-    ap (λ (t : Bool). going_on statements (cond t (Some made) None)) (front_allowed (script.steps ++ s ∷ []) (filter_map step_of statements) more)
+    ap (λ (t : Bool). going_on statements (cond t (Some made) None)) (next_step script.steps s (filter_map step_of statements) steps)
     ∙ follow_again statements made (step_again script.steps s statements order) rules more
     ∙ ap Some (said_step script s statements)

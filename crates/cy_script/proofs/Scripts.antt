@@ -41,7 +41,7 @@ without_empty (line ∷ lines) script h = ap (λ (o : Option Script). cond (byte
 pub nothing_allowed : IsAllowed nothing_said
 nothing_allowed = record {
   rules = record { taken = record { good = refl; distinct = λ place. refl }; few = omega arith };
-  steps = record { one = refl; once = omega arith; short = omega arith };
+  steps = record { of_connections = refl; once = λ n. omega arith; short = omega arith };
 }
 
 -- Lines are a script, behind the first.

@@ -16,7 +16,6 @@ use Rattle.cy_script.specs.Lines.{lacks, mode_of, IsNumber, IsWritten}
 use Rattle.cy_script.specs.Reading.{alone, behind_word, is_async, number_field, rule_line, rule_of_part, set_line, set_of, set_to, statement_of, statement_of_word, step_line, word_field, word_of}
 use Rattle.cy_script.specs.Settings.{IsInRange}
 use Rattle.cy_settings.specs.Limits.{limit_greatest, limit_least, limit_name, limit_named, limits}
-use Rattle.cy_settings.specs.Rules.{most_part}
 use Rattle.cy_script.proofs.FieldsRead.{alone_is, bind_some, cond_cases, map_some, number_field_is, number_field_last, number_field_then, word_field_is, word_field_last, word_field_then}
 use Rattle.cy_script.proofs.StepLines.{same_bytes, step_again, step_line_is}
 use Rattle.cy_script.proofs.Words.{and_parts, some_then, word_and_rest, word_then}

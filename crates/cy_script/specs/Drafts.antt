@@ -1,18 +1,19 @@
 -- What is kept of the lines so far.
-use Rattle.std.specs.Prelude.{◌≡◌, ◌≤◌, true, count_by, if◌then◌else◌}
+use Rattle.std.specs.Prelude.{◌≡◌, ℕ, ◌≤◌, true}
+use Rattle.std.specs.BTreeSet.{contains}
 use Rattle.std.specs.List.{list_all, sum_by}
+use Rattle.std.specs.Ordering.{nat_cmp}
 use Rattle.cy_script.specs.declared.draft.Draft.TheInside.{Inside}
 use Rattle.cy_script.specs.declared.statements.Statement.{Statement}
 use Rattle.cy_script.specs.declared.statements.Statement.TheVariants as statement
-use Rattle.cy_script.specs.Conditions.{is_admit, is_of_the_connection, most_written, written_by}
+use Rattle.cy_script.specs.Conditions.{is_admitted, most_written, written_by}
 use Rattle.cy_settings.specs.Limits.{limit_greatest}
 use Rattle.cy_settings.specs.Rules.{has_part, most_part}
 
--- the steps are counted
+-- the numbers that the steps admit are kept, and the bytes that they write are counted
 pub record IsCounted (d : Inside) : Type 0 where
   pub parts : list_all has_part d.rules.items ≡ true
-  pub one : list_all is_of_the_connection d.steps.items ≡ true
-  pub admits : count_by is_admit d.steps.items ≡ (if d.admits then 1 else 0)
+  pub admitted : (n : ℕ) → contains nat_cmp d.admitted n ≡ is_admitted n d.steps.items
   pub written : sum_by written_by d.steps.items ≡ d.written
   pub short : d.written ≤ most_written
 

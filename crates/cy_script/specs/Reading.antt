@@ -1,7 +1,6 @@
 -- A script as it is read: line by line, and each line from its front.
-use Rattle.std.specs.Prelude.{ℕ, ◌-◌, ◌^◌, Bool, true, false, ◌&&◌, not, ◌==◌, nat_le, nat_lt, if◌then◌else◌, List, [], ◌∷◌, ◌++◌, length, take, drop, codes, Option, Some, None, option_map, bytes_eq, find, count_by, negsuc}
+use Rattle.std.specs.Prelude.{ℕ, ◌-◌, ◌^◌, Bool, true, false, ◌&&◌, ◌==◌, nat_le, nat_lt, if◌then◌else◌, List, [], ◌∷◌, ◌++◌, length, take, drop, codes, Option, Some, None, option_map, bytes_eq, negsuc}
 use Rattle.std.specs.Option.{option_and_then}
-use Rattle.std.specs.List.{list_all, list_any, sum_by}
 use Rattle.std.specs.Result.{result_ok}
 use Rattle.cy_bytes.specs.Numbers.{decimal_of}
 use Rattle.cy_bytes.specs.Quoting.{unquoted}
@@ -15,7 +14,7 @@ use Rattle.cy_script.specs.declared.script.Script.{Script}
 use Rattle.cy_settings.specs.declared.limit.Limit.{Limit}
 use Rattle.cy_script.specs.declared.statements.Statement.{Statement}
 use Rattle.cy_script.specs.declared.statements.Statement.TheVariants as statement
-use Rattle.cy_script.specs.Conditions.{is_admit, is_of_the_connection, most_written, written_by}
+use Rattle.cy_script.specs.Conditions.{is_next_step}
 use Rattle.cy_script.specs.Lines.{line_feed, space}
 use Rattle.cy_script.specs.Settings.{with_setting}
 use Rattle.cy_script.specs.Spelling.{first_line}
@@ -191,9 +190,11 @@ nothing_said = record { limits = standard 0; rules = []; steps = [] }
 abbrev pub before_steps : Script → Script → Option Script
 before_steps script next = if length script.steps == 0 then Some next else None
 
-abbrev pub are_steps : List Step → Bool
-are_steps steps =
-    list_all is_of_the_connection steps && (nat_le (count_by is_admit steps) 1 && nat_le (sum_by written_by steps) most_written)
+-- the script so far with a further step, where that may be the next
+abbrev pub with_step : Script → Step → Option Script
+with_step script s =
+    if is_next_step script.steps s then Some (record script { steps = script.steps ++ s ∷ [] })
+    else None
 
 -- the script so far behind a further statement
 abbrev pub after_statement : Script → Statement → Option Script
@@ -202,8 +203,7 @@ after_statement script (statement.Set setting value) = before_steps script (reco
 after_statement script statement.NoLimit = before_steps script (record script { limits = record script.limits { max_keep_alive = negsuc 0 } })
 after_statement script (statement.Rule rule) =
     if is_next_rule script.rules rule then before_steps script (record script { rules = script.rules ++ rule ∷ [] }) else None
-after_statement script (statement.Step s) =
-    if are_steps (script.steps ++ s ∷ []) then Some (record script { steps = script.steps ++ s ∷ [] }) else None
+after_statement script (statement.Step s) = with_step script s
 
 -- the script so far behind further lines
 abbrev pub after_lines : Script → List (List ℕ) → Option Script

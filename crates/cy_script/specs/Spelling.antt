@@ -1,5 +1,5 @@
 -- A script as it is written: its lines, and what they say together.
-use Rattle.std.specs.Prelude.{◌≡◌, ℕ, ◌+◌, max, Bool, true, false, not, List, [], ◌∷◌, codes, negsuc, Option, Some, None, fold}
+use Rattle.std.specs.Prelude.{◌≡◌, ℕ, Bool, true, false, not, List, [], ◌∷◌, codes, negsuc, Option, Some, None, fold}
 use Rattle.std.specs.List.{AllZip, filter_map, list_all}
 use Rattle.cy_event.specs.Limits.{standard}
 use Rattle.cy_event.specs.declared.limits.Limits.{Limits}

@@ -2,7 +2,7 @@
 
 ghost use Rattle.std.specs.Prelude.{◌≡◌, ◌≤◌, ◌++◌, ◌∷◌, [], ◌==◌, not, length};
 ghost use Rattle.cy_script.specs.Answers.{Reads};
-ghost use Rattle.cy_script.specs.Conditions.{is_admit, is_of_the_connection, written_by};
+ghost use Rattle.cy_script.specs.Conditions.{is_of_a_connection, written_by};
 ghost use Rattle.cy_settings.specs.Rules.{is_next_rule};
 
 use crate::fault::ScriptFault;
@@ -13,6 +13,7 @@ use cy_event::{Act, Limits, Step};
 use cy_map::{MAX_RULES, Rule, is_pattern};
 use cy_settings::{Rules, has_pattern, parts_of};
 use std::alloc::Global;
+use std::collections::BTreeSet;
 use std::marker::Model;
 
 /// The most bytes that the steps of a script write.
@@ -24,8 +25,8 @@ pub(crate) struct Draft {
     limits: Limits,
     rules: Vec<Rule>,
     steps: Vec<Step>,
-    /// Whether a step admits the connection.
-    admits: bool,
+    /// The numbers of the connections that steps admit.
+    admitted: BTreeSet<u64>,
     /// How many bytes the steps write.
     written: u32,
 }
@@ -42,7 +43,8 @@ impl Model for Draft {
 }
 
 impl Draft {
-    ghost use Rattle.cy_script.specs.Reading.{after_statement, are_steps, before_steps, nothing_said, with_parts};
+    ghost use Rattle.cy_script.specs.Reading.{after_statement, before_steps, nothing_said};
+    ghost use Rattle.cy_script.specs.Reading.{with_parts, with_step};
     ghost use Rattle.cy_script.specs.Drafts.{IsBounded};
     ghost use Rattle.cy_settings.specs.Rules.{most_part};
     ghost use Rattle.std.specs.Prelude.{if◌then◌else◌, None, Some};
@@ -55,7 +57,7 @@ impl Draft {
             limits: Limits::standard(0),
             rules: Vec::new(alloc),
             steps: Vec::new(alloc),
-            admits: false,
+            admitted: BTreeSet::new(alloc),
             written: 0,
         }
     }
@@ -126,21 +128,21 @@ impl Draft {
         Ok(())
     }
 
-    /// Takes the next step. The connection is admitted once, and the steps write few enough bytes.
+    /// Takes the next step. No number is admitted twice, and the steps write few enough bytes.
     fn add_step(&mut self, step: Step) -> Result<(), ScriptFault>
-        ensures { Reads (λ _. self.new) result
-            (if are_steps (self.old.steps ++ step ∷ []) then Some (record self.old { steps = self.old.steps ++ step ∷ [] }) else None) }
+        ensures { Reads (λ _. self.new) result (with_step self.old step) }
     {
-        let admits = is_admit(&step);
         let written = written_by(&step);
-        if !is_of_the_connection(&step)
-            || (admits && self.admits)
-            || written > MOST_WRITTEN - self.written
+        if !is_of_a_connection(&step) || written > MOST_WRITTEN - self.written {
+            return Err(ScriptFault::Refused);
+        }
+        self.steps.reserve(1)?;
+        if let Step::Admit(conn) = step
+            && !self.admitted.insert(conn)?
         {
             return Err(ScriptFault::Refused);
         }
-        self.steps.push(step)?;
-        self.admits = self.admits || admits;
+        self.steps.push_reserved(step);
         self.written += written;
         Ok(())
     }
@@ -154,21 +156,16 @@ fn is_next_rule(rules: &[Rule], rule: &Rule) -> bool
     is_pattern(pattern) && !has_pattern(rules, pattern) && rules.len() < MAX_RULES
 }
 
-/// Whether a step is one of the only connection that a script has so far.
-fn is_of_the_connection(step: &Step) -> bool
-    ensures { result ≡ is_of_the_connection step.now }
+/// Whether a step is of a connection, which has a number of 1 or more. A step of the clock is of
+/// none.
+fn is_of_a_connection(step: &Step) -> bool
+    ensures { result ≡ is_of_a_connection step.now }
 {
     match step {
         Step::At(_) => false,
-        Step::Admit(conn) | Step::Run(conn) => *conn == 1,
-        Step::On { conn, .. } | Step::Act { conn, .. } => *conn == 1,
+        Step::Admit(conn) | Step::Run(conn) => *conn >= 1,
+        Step::On { conn, .. } | Step::Act { conn, .. } => *conn >= 1,
     }
-}
-
-fn is_admit(step: &Step) -> bool
-    ensures { result ≡ is_admit step.now }
-{
-    matches!(step, Step::Admit(_))
 }
 
 /// How many bytes of content a step writes.

@@ -22,13 +22,13 @@ fn is_refused(alloc: Global, text: &[u8]) -> Result<bool, AllocError> {
     ))
 }
 
-/// A script of which two lines write so many bytes.
+/// A script of which two lines, one for each of two connections, write so many bytes.
 fn writing(alloc: Global, first: usize, second: usize) -> Result<Vec<u8>, AllocError> {
     let mut text = behind_first_line(alloc, b"act 1 write \"")?;
     for _ in 0..first {
         text.extend_from_slice(b"a")?;
     }
-    text.extend_from_slice(b"\"\nact 1 write \"")?;
+    text.extend_from_slice(b"\"\nact 2 write \"")?;
     for _ in 0..second {
         text.extend_from_slice(b"b")?;
     }
@@ -42,6 +42,16 @@ fn with_rules(alloc: Global, count: u32) -> Result<Vec<u8>, Fail> {
     for part in 0..count {
         let rule = format!(in alloc; "rule /{part} 0 sync\n")?;
         text.extend_from_slice(rule.as_bytes())?;
+    }
+    Ok(text)
+}
+
+/// A script that admits so many connections, with the numbers from 1 on.
+fn with_connections(alloc: Global, count: u32) -> Result<Vec<u8>, Fail> {
+    let mut text = behind_first_line(alloc, b"")?;
+    for number in 1..=count {
+        let admission = format!(in alloc; "admit {number}\n")?;
+        text.extend_from_slice(admission.as_bytes())?;
     }
     Ok(text)
 }
@@ -172,7 +182,7 @@ fn settings_and_rules_of_another_form_are_refused(rt: HostRuntime) -> Result<(),
 
 #[test]
 fn steps_of_another_form_are_refused(rt: HostRuntime) -> Result<(), Fail> {
-    let table: [&[u8]; 48] = [
+    let table: [&[u8]; 40] = [
         // words, and what ends a line
         b" ",
         b" # a",
@@ -197,18 +207,12 @@ fn steps_of_another_form_are_refused(rt: HostRuntime) -> Result<(), Fail> {
         b"act 1 write ",
         b"act 1  write \"\"",
         b"return 1 ",
-        // numbers, and another connection
+        // numbers that are none
         b"run 01",
         b"run \"1\"",
         b"run -1",
         b"out 1 -1",
         b"out 1 18446744073709551616",
-        b"admit 0",
-        b"admit 2",
-        b"end 2",
-        b"in 2 \"a\"",
-        b"act 2 write \"a\"",
-        b"return 11",
         // quoted texts
         b"in 1",
         b"in 1 a",
@@ -220,12 +224,10 @@ fn steps_of_another_form_are_refused(rt: HostRuntime) -> Result<(), Fail> {
         b"in 1 \"a\"b\"",
         b"in 1 \"\\q\"",
         b"act 1 write \"\\x0\"",
-        // out of order, or admitted twice
+        // out of order
         b"admit 1\nset maxConnections 7",
         b"run 1\nset maxKeepAliveRequests -1",
         b"end 1\nrule / 0 sync",
-        b"admit 1\nadmit 1",
-        b"admit 1\nrun 1\n\n# a\nadmit 1\n",
     ];
     for (row, text) in table.iter().enumerate() {
         assert!(rt; is_refused(rt.alloc(), text)?, "row {row}");
@@ -349,6 +351,89 @@ fn writes_have_at_most_8192_bytes_together(rt: HostRuntime) -> Result<(), Fail> 
     let longer = writing(rt.alloc(), 4000, 4193)?;
     let refused = matches!(
         read_script(rt.alloc(), longer.as_slice()),
+        Err(ScriptFault::Refused)
+    );
+    assert!(rt; refused);
+    Ok(())
+}
+
+#[test]
+fn lines_of_any_connections_are_read(rt: HostRuntime) -> Result<(), Fail> {
+    let table: [&[u8]; 6] = [
+        b"admit 1\nadmit 2\nin 2 \"a\"\nin 1 \"b\"\nrun 1\nend 2\n",
+        b"admit 3\nin 3 \"a\"\nadmit 1\nadmit 2\nact 2 write \"a\"\nreturn 3\nout 1 5\n",
+        b"admit 18446744073709551615\nrun 18446744073709551615\n",
+        b"admit 18446744073709551615\nadmit 1\nend 1\n",
+        // steps of numbers that are admitted later, and of those that are never
+        b"end 2\nadmit 2\n",
+        b"run 7\nadmit 1\nin 7 \"a\"\nend 18446744073709551615\n",
+    ];
+    for (row, text) in table.iter().enumerate() {
+        let script = behind_first_line(rt.alloc(), text)?;
+        assert!(rt;
+            read_script(rt.alloc(), script.as_slice()).is_ok(),
+            "row {row}"
+        );
+    }
+    Ok(())
+}
+
+#[test]
+fn lines_of_other_numbers_are_refused(rt: HostRuntime) -> Result<(), Fail> {
+    let table: [&[u8]; 14] = [
+        // no connection has the number 0
+        b"admit 0",
+        b"in 0 \"a\"",
+        b"end 0",
+        b"out 0 1",
+        b"run 0",
+        b"act 0 write \"a\"",
+        b"return 0",
+        // nor one past the greatest
+        b"admit 18446744073709551616",
+        b"run 18446744073709551616",
+        // a number is admitted once
+        b"admit 1\nadmit 1",
+        b"admit 1\nrun 1\n\n# a\nadmit 1\n",
+        b"admit 1\nadmit 2\nadmit 2",
+        b"admit 3\nadmit 1\nend 3\nadmit 2\nadmit 3",
+        b"admit 18446744073709551615\nadmit 18446744073709551615",
+    ];
+    for (row, text) in table.iter().enumerate() {
+        assert!(rt; is_refused(rt.alloc(), text)?, "row {row}");
+    }
+    Ok(())
+}
+
+#[test]
+fn steps_have_their_connections(rt: HostRuntime) -> Result<(), Fail> {
+    let text = behind_first_line(
+        rt.alloc(),
+        b"admit 2\nadmit 18446744073709551615\nrun 2\nrun 5\n",
+    )?;
+    let script = read_script(rt.alloc(), text.as_slice())?;
+    match script.steps.as_slice() {
+        [
+            Step::Admit(first),
+            Step::Admit(second),
+            Step::Run(third),
+            Step::Run(fourth),
+        ] => {
+            assert!(rt; *first == 2 && *second == u64::MAX);
+            assert!(rt; *third == 2 && *fourth == 5);
+        }
+        _ => assert!(rt; false, "the steps of the lines"),
+    }
+    Ok(())
+}
+
+#[test]
+fn each_of_many_connections_is_admitted_once(rt: HostRuntime) -> Result<(), Fail> {
+    let mut many = with_connections(rt.alloc(), 2000)?;
+    assert!(rt; read_script(rt.alloc(), many.as_slice()).is_ok());
+    many.extend_from_slice(b"admit 1000\n")?;
+    let refused = matches!(
+        read_script(rt.alloc(), many.as_slice()),
         Err(ScriptFault::Refused)
     );
     assert!(rt; refused);

@@ -159,16 +159,19 @@ pub event_room : (before now : PlaceParts) (n : ℕ) → now.live.charts ≡ bef
 event_room before now n charts room left work within has =
     let bound : work_of now.live.line ≤ IN_CAPACITY + 1 = omega (arith, within, cause_at_most now.live.line.cause) in
     record {
-      charts = omega (arith, has.charts, work, ap length charts, room);
+      charts = held (length now.live.charts) (work_of before.live.line) (work_of now.live.line) n before.chart_room now.chart_room (omega (arith, has.charts, ap length charts)) work bound room;
       tenants = fits (work_of before.live.line) (work_of now.live.line) n before.tenants_left now.tenants_left has.tenants work bound left;
     }
   where
     fits : (w v m a b : ℕ) → w + taken_at_most m + 2 ≤ a → v ≤ w + m → v ≤ IN_CAPACITY + 1 → b ≡ a → v + taken_at_most 0 + 2 ≤ b
     fits w v m a b has work bound left = omega arith
 
+    held : (k w v m a b : ℕ) → k + w + taken_at_most m + 2 ≤ a → v ≤ w + m → v ≤ IN_CAPACITY + 1 → b ≡ a → k + v + taken_at_most 0 + 2 ≤ b
+    held k w v m a b has work bound room = omega arith
+
 -- so many charts and tenants were asked for, as many as there may be heads
 pub asked_room : (before now : PlaceParts) (bytes free asked : ℕ) → now.live ≡ before.live → now.tenants_left ≡ before.tenants_left
-    → length before.live.line.unread + free ≤ IN_CAPACITY → (IN_CAPACITY - free) + bytes + 3 ≤ asked
+    → length before.live.line.unread + free ≤ IN_CAPACITY → (IN_CAPACITY - free) + taken_at_most bytes + 3 ≤ asked
     → length before.live.charts + asked ≤ now.chart_room → 2 * IN_CAPACITY + 8 ≤ before.tenants_left → HasRoom bytes now
 asked_room before now bytes free asked same left within enough charts tenants = record {
   charts = omega (

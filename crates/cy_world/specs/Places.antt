@@ -100,7 +100,7 @@ taken_at_most bytes = min bytes (IN_CAPACITY + 2)
 -- there is room for the chart of each head that may be taken up, and a tenancy for it, where so many bytes come before;
 -- and for one more
 pub record HasRoom (bytes : ℕ) (p : PlaceParts) : Type 0 where
-  pub charts : length p.live.charts + work_of p.live.line + bytes + 2 ≤ p.chart_room
+  pub charts : length p.live.charts + work_of p.live.line + taken_at_most bytes + 2 ≤ p.chart_room
   pub tenants : work_of p.live.line + taken_at_most bytes + 2 ≤ p.tenants_left
 
 -- nothing but the room changes

@@ -195,7 +195,8 @@ impl Place {
     {
         self.get_spare()?;
         let waiting = IN_CAPACITY - self.in_room();
-        self.get_chart_room(waiting.saturating_add(bytes).saturating_add(3))
+        let coming = bytes.min(IN_CAPACITY + 2);
+        self.get_chart_room(waiting + coming + 3)
     }
 
     /// Gets a new slot where this one is nearly used up.
@@ -212,7 +213,6 @@ impl Place {
     /// Gets room for so many further charts.
     fn get_chart_room(&mut self, further: usize) -> Result<(), NoMemory>
         ensures room { OnOk result (length self.old.live.charts + further ≤ self.new.chart_room) }
-        ensures fits { OnOk result (further < 2 ^ 63) }
         ensures same { IsSameButRoom self.old self.new }
         ensures tenants { self.new.tenants_left ≡ self.old.tenants_left }
     {

@@ -188,7 +188,11 @@ fn expect(rt: &impl Abort, alloc: Global, world: &mut World, lines: &str) -> Res
         let (conn, asked) = asked.split_once(' ').ok_or("a line without a number")?;
         let got = answer(rt, alloc, world, conn.parse::<u64>()?, asked)?;
         let wanted = bytes_of(alloc, wanted)?;
-        assert!(rt; got == wanted, "{line}: {}", String::from_utf8_lossy(alloc, &got)?.as_str());
+        assert!(rt;
+            got == wanted,
+            "{line}: {}",
+            String::from_utf8_lossy(alloc, &got)?.as_str()
+        );
     }
     Ok(())
 }

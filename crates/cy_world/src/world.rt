@@ -137,7 +137,7 @@ impl World {
         ensures unchanged { OnErr result ((w : List AnyStep) → StandsFor w self.old → StandsFor w self.new) }
         ensures settings { self.new.settings ≡ self.old.settings }
     {
-        let written = Vec::with_capacity(alloc, OUT_CAPACITY)?;
+        let written = Vec::with_capacity(alloc, 2 * OUT_CAPACITY)?;
         let share = match self.latch.enter() {
             Enter::Full { count } => return Ok(Reply::Full(count)),
             Enter::Entered(share) => share,

@@ -1,17 +1,10 @@
 //! `cyctl` replays a written list of steps of a connector, and checks its settings.
 #![tactic(auto)]
 
-mod chart;
 mod check;
-mod connection;
-mod connector;
 mod input;
 mod laws;
-mod live;
 mod output;
-mod report;
-mod run;
-mod settings;
 mod tool;
 
 use input::StdSource;

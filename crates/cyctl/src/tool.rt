@@ -3,7 +3,6 @@ ghost use Rattle.std.specs.Prelude.{◌≡◌, ◌≢◌, ◌↔◌, ◌≤◌, 
 ghost use Rattle.std.specs.Io.KnownBytes.{Appends};
 ghost use Rattle.cy_link.specs.Causes.{Rose};
 ghost use Rattle.cy_script.specs.Kept.{IsScript};
-ghost use Rattle.cyctl.specs.Connecting.{TellsConnections};
 ghost use Rattle.cyctl.specs.declared.tool.Refusal.TheVariants.{NoMemory};
 ghost use Rattle.cyctl.specs.Causes.{ReadsAll, WasRead, WritesFront};
 ghost use Rattle.cyctl.specs.Check.{IsCheck, IsChecked};
@@ -11,14 +10,12 @@ ghost use Rattle.cyctl.specs.Tool.{HasNotRisen, IsInForm, IsOutside, IsReplay, I
 ghost use Rattle.cyctl.specs.declared.input.TheConstants.{GREATEST_INPUT};
 
 use crate::check::{check, is_check};
-use crate::connector::{Admitted, Connector};
 use crate::input::{InputFault, read_all};
 use crate::output::write_all;
-use crate::report::{push_connection, push_reply_lines};
-use crate::run::{Run, run_steps};
-use crate::settings::Settings;
+use cy_bytes::Bytes;
 use cy_link::{Sink, Source};
 use cy_script::{Script, ScriptFault, read_script};
+use cy_world::{WorldFault, run};
 use std::alloc::{AllocError, Global};
 
 const USAGE: &[u8] = b"usage: cyctl replay | check | gen <n> | burn <n>\n";
@@ -103,45 +100,18 @@ impl From<AllocError> for Refusal {
     }
 }
 
-/// Appends what the connection that was admitted came to.
-fn push_admitted(
-    alloc: Global,
-    out: &mut Vec<u8>,
-    admitted: Option<Admitted>,
-) -> Result<(), AllocError>
-    ensures { OnOk result (TellsConnections admitted out.old.items out.new.items) }
+/// The report of a script: a connector takes its steps, over slots that are used again.
+fn report(alloc: Global, script: &Script) -> Result<Bytes, AllocError>
+    requires { IsScript script.now }
+    ensures { IfOk result (λ text. text ≡ replayed script.now) }
 {
-    let Some(Admitted { number, connection }) = admitted else {
-        return Ok(());
-    };
-    let account = connection.into_account()?;
-    push_connection(
-        alloc,
-        out,
-        number,
-        account.cause,
-        account.took,
-        &account.written,
-        &account.charts,
-    )?;
-    Ok(())
-}
-
-/// The report of a script.
-fn report(alloc: Global, script: Script) -> Result<Vec<u8>, AllocError>
-    requires { IsScript script }
-    ensures { IfOk result (λ text. text.items ≡ replayed script) }
-{
-    let settings = Settings::new(alloc, script.limits, script.rules.as_slice())?;
-    let Run { replies, connector } = run_steps(alloc, settings, script.steps.as_slice())?;
-    let Connector {
-        settings: _,
-        admitted,
-    } = connector;
-    let mut text = Vec::new(alloc);
-    push_reply_lines(alloc, &mut text, &replies)?;
-    push_admitted(alloc, &mut text, admitted)?;
-    Ok(text)
+    let rules = script.rules.as_slice();
+    match run(alloc, &script.limits, rules, script.steps.as_slice()) {
+        Ok(text) => Ok(text),
+        Err(WorldFault::NoMemory) => Err(AllocError),
+        Err(WorldFault::BadPattern { .. }) => unreachable!(),
+        Err(WorldFault::RuleTwice { .. }) => unreachable!(),
+    }
 }
 
 /// The report of an input.
@@ -151,8 +121,8 @@ fn report_input(alloc: Global, input: &[u8]) -> Result<Vec<u8>, Refusal>
     ensures memory { OnErr result (result ≢ Err Refusal.Script → result ≡ Err Refusal.NoMemory) }
 {
     let script = read_script(alloc, input)?;
-    let text = report(alloc, script)?;
-    Ok(text)
+    let text = report(alloc, &script)?;
+    Ok(text.into_vec())
 }
 
 /// The report of what the source has left.

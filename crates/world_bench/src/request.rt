@@ -64,9 +64,10 @@ impl Request {
         let place = place % STEPS;
         let step = &mut self.steps[place];
         match step {
-            Step::Admit(conn) | Step::On { conn, .. } | Step::Run(conn) | Step::Act { conn, .. } => {
-                *conn = number;
-            }
+            Step::Admit(conn) | Step::On { conn, .. } | Step::Run(conn) | Step::Act { conn, .. } =>
+                {
+                    *conn = number;
+                }
             Step::At(_) => {}
         }
         (step, REPLIES[place])

@@ -56,7 +56,10 @@ fn mixed_connections_are_served_as_if_alone(rt: HostRuntime) -> Result<(), Fail>
         }
         let answers = mix(&rt, alloc, courses, number)?;
         for (course, answers) in courses.iter().zip(&answers) {
-            assert!(rt; alone.get(*course) == Some(answers), "course {course} at {seed}");
+            assert!(rt;
+                alone.get(*course) == Some(answers),
+                "course {course} at {seed}"
+            );
         }
     }
     Ok(())

@@ -1,8 +1,0 @@
--- What the loops of `push_chart_items` keep.
-use Rattle.std.proofs.Common.{◌≡◌, ◌++◌, drop}
-use Rattle.std.specs.List.{flat_map}
-use Rattle.cy_model.specs.Reports.{chart_item}
-use Rattle.cyctl.proofs.report.push_chart_items.Given as goal
-
-abbrev pub invariant-loop-item : goal.invariant-loop-item
-invariant-loop-item l = l.out.items ++ flat_map chart_item (drop l.item-index l.items) ≡ l.initial.out.items ++ flat_map chart_item l.items
