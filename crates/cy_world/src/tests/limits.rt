@@ -12,7 +12,10 @@ fn expect_each(
     for i in 0..u64::from(count) {
         let conn = first.saturating_add(i);
         let got = reply(rt, alloc, world, conn, "admit")?;
-        assert!(rt; got.as_slice() == b"Entered".as_slice(), "connection {conn}");
+        assert!(rt;
+            got.as_slice() == b"Entered".as_slice(),
+            "connection {conn}"
+        );
     }
     Ok(())
 }
