@@ -1,5 +1,8 @@
 // A connector, driven by its steps: what each is answered, and what is told of its connections. The
 // steps stand in lines of text, and so does what is wanted. Memory is ample.
+ghost use Rattle.std.specs.Prelude.{◌≡◌, true};
+ghost use Rattle.cy_world.specs.Worlds.{CanTake};
+
 use super::*;
 use cy_bytes::Bytes;
 use cy_event::{Act, Bytes as StepBytes, Event, Limits, NoMemory, RequestHead, Step};
@@ -31,7 +34,9 @@ fn world(alloc: Global, most: u32) -> Result<World, Fail> {
 
 /// Whether the connector takes the step: a number is admitted once, and the bytes that are written
 /// stand there.
-fn may_take(world: &World, step: &Step) -> bool {
+fn may_take(world: &World, step: &Step) -> bool
+    ensures { result ≡ true → CanTake step.now world.now }
+{
     match step {
         Step::At(_) => false,
         Step::Admit(number) => world.out(*number).is_none(),

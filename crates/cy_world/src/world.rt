@@ -172,9 +172,10 @@ impl World {
         Ok(reply)
     }
 
-    /// All that was written on the connection of this number.
+    /// All that was written on the connection of this number, if one was admitted.
     pub fn out(&self, conn: u64) -> Option<&Bytes>
-        ensures { (w : List AnyStep) → StandsFor w self.now → option_copied result ≡ told_of output self.now w conn }
+        ensures told { (w : List AnyStep) → StandsFor w self.now → option_copied result ≡ told_of output self.now w conn }
+        ensures known { is_some result ≡ is_some (find_in conn self.now.book) }
     {
         match self.book.get(&conn)? {
             Admitted::Seated(place) => Some(self.seats[*place as usize].written()),
@@ -245,6 +246,7 @@ impl World {
     /// The number of the slot in which the connection sits: it does while a request of it is open.
     pub fn place(&self, conn: u64) -> Option<u32>
         ensures sits { IfSome result (λ i. SitsIn conn i self.now) }
+        ensures within { IfSome result (λ i. i < self.now.settings.limits.max_connections) }
         ensures open { (w : List AnyStep) → StandsFor w self.now → is_some result ≡ unwrap_or (told_of is_open self.now w conn) false }
     {
         match self.book.get(&conn)? {

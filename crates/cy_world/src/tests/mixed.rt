@@ -12,53 +12,83 @@ fn next(number: u64) -> u64 {
         .wrapping_add(1_442_695_040_888_963_407)
 }
 
-/// One of so few, by the upper bits of a number.
-fn pick(number: u64, count: u64) -> usize
-    requires few { 0 < count }
-{
-    ((number >> 33) % count) as usize
+/// The upper bits of a number, by which one of a few is picked.
+fn upper(number: u64) -> usize {
+    (number >> 33) as usize
 }
 
-/// Three connections, each with a course of this number, by turns: what each is answered.
+/// A connection that goes through the course of this number, how far it is, and what it was answered.
+#[derive(Drop)]
+struct Guest {
+    course: usize,
+    place: usize,
+    answers: Vec<u8>,
+}
+
+/// Takes the next step of a connection, if there is one.
+fn turn_to(
+    rt: &impl Abort,
+    alloc: Global,
+    world: &mut World,
+    conn: u64,
+    guest: &mut Guest,
+) -> Result<(), Fail> {
+    if let Some(course) = COURSES.get(guest.course) {
+        let line = course.lines().nth(guest.place);
+        go_on(rt, alloc, world, conn, line, &mut guest.answers)?;
+        guest.place = guest.place.saturating_add(1);
+    }
+    Ok(())
+}
+
+/// Three connections, as chance has it from this number on.
+fn guests(alloc: Global, mut number: u64) -> Result<Vec<Guest>, Fail> {
+    let mut guests = Vec::new(alloc);
+    for _ in 0..3 {
+        number = next(number);
+        guests.push(Guest {
+            course: upper(number) % 8,
+            place: 0,
+            answers: Vec::new(alloc),
+        })?;
+    }
+    Ok(guests)
+}
+
+/// The connections go by turns until all are gone, as chance has it from this number on.
 fn mix(
     rt: &impl Abort,
     alloc: Global,
-    courses: [usize; 3],
-    seed: u64,
-) -> Result<[Vec<u8>; 3], Fail> {
+    guests: &mut Vec<Guest>,
+    mut number: u64,
+) -> Result<(), Fail> {
     let mut world = world(alloc, 3)?;
-    let mut answers = [Vec::new(alloc), Vec::new(alloc), Vec::new(alloc)];
-    let mut places = [0usize; 3];
-    let mut number = seed;
     for _ in 0..200 {
         number = next(number);
-        let i = pick(number, 3);
-        let line = COURSES[courses[i]].lines().nth(places[i]);
-        go_on(rt, alloc, &mut world, i as u64, line, &mut answers[i])?;
-        places[i] = places[i].saturating_add(1);
+        let conn = upper(number) % 3;
+        if let Some(guest) = guests.get_mut(conn) {
+            turn_to(rt, alloc, &mut world, conn as u64, guest)?;
+        }
     }
-    for i in 0..3 {
-        tell(alloc, &world, i as u64, &mut answers[i])?;
+    for (conn, guest) in guests.iter_mut().enumerate() {
+        tell(alloc, &world, conn as u64, &mut guest.answers)?;
     }
-    Ok(answers)
+    Ok(())
 }
 
 #[test]
 fn mixed_connections_are_served_as_if_alone(rt: HostRuntime) -> Result<(), Fail> {
     let alloc = rt.alloc();
     let alone = each_alone(&rt, alloc)?;
-    let mut number = 0;
     for seed in 0..SEEDS {
-        let mut courses = [0; 3];
-        for course in &mut courses {
-            number = next(number);
-            *course = pick(number, 8);
-        }
-        let answers = mix(&rt, alloc, courses, number)?;
-        for (course, answers) in courses.iter().zip(&answers) {
+        let mut guests = guests(alloc, seed)?;
+        mix(&rt, alloc, &mut guests, next(seed))?;
+        for guest in &guests {
+            let wanted = alone.get(guest.course);
             assert!(rt;
-                alone.get(*course) == Some(answers),
-                "course {course} at {seed}"
+                wanted == Some(&guest.answers),
+                "course {} at {seed}",
+                guest.course
             );
         }
     }

@@ -196,7 +196,7 @@ fn a_place_serves_one_connection_behind_the_other(rt: HostRuntime) -> Result<(),
 }
 
 /// How many pairs of connections pass through the two slots.
-const PAIRS: usize = 1_000;
+const PAIRS: u32 = 1_000;
 
 /// Two connections at a time: the one takes four steps before the other, and then they go by turns.
 fn pass_two(
@@ -205,21 +205,59 @@ fn pass_two(
     world: &mut World,
     conns: (u64, u64),
     courses: (&str, &str),
-) -> Result<[Vec<u8>; 2], Fail> {
+) -> Result<(Vec<u8>, Vec<u8>), Fail> {
     let mut one = Vec::new(alloc);
     let mut other = Vec::new(alloc);
-    let mut rest = courses.0.lines();
-    for _ in 0..4 {
-        go_on(rt, alloc, world, conns.0, rest.next(), &mut one)?;
+    for i in 0..12 {
+        go_on(
+            rt,
+            alloc,
+            world,
+            conns.0,
+            courses.0.lines().nth(i),
+            &mut one,
+        )?;
+        if let Some(behind) = i.checked_sub(4) {
+            go_on(
+                rt,
+                alloc,
+                world,
+                conns.1,
+                courses.1.lines().nth(behind),
+                &mut other,
+            )?;
+        }
     }
-    let mut lines = courses.1.lines();
-    for _ in 0..12 {
-        go_on(rt, alloc, world, conns.1, lines.next(), &mut other)?;
-        go_on(rt, alloc, world, conns.0, rest.next(), &mut one)?;
+    for i in 8..12 {
+        go_on(
+            rt,
+            alloc,
+            world,
+            conns.1,
+            courses.1.lines().nth(i),
+            &mut other,
+        )?;
     }
     tell(alloc, world, conns.0, &mut one)?;
     tell(alloc, world, conns.1, &mut other)?;
-    Ok([one, other])
+    Ok((one, other))
+}
+
+/// That the two connections of a pair get what each gets alone.
+fn expect_pair(
+    rt: &impl Abort,
+    alloc: Global,
+    world: &mut World,
+    pair: u32,
+    alone: &[Vec<u8>],
+) -> Result<(), Fail> {
+    let (i, j) = (pair as usize % 8, pair as usize / 8 % 8);
+    let first = u64::from(pair) * 2;
+    let courses = (COURSES[i], COURSES[j]);
+    let (one, other) = pass_two(rt, alloc, world, (first, first + 1), courses)?;
+    assert!(rt; alone.get(i) == Some(&one), "one of pair {pair}");
+    assert!(rt; alone.get(j) == Some(&other), "the other of pair {pair}");
+    Ok(())
 }
 
 #[test]
@@ -228,12 +266,7 @@ fn many_connections_pass_through_two_slots(rt: HostRuntime) -> Result<(), Fail> 
     let alone = each_alone(&rt, alloc)?;
     let mut world = world(alloc, 2)?;
     for pair in 0..PAIRS {
-        let (i, j) = (pair % 8, pair / 8 % 8);
-        let first = pair as u64 * 2;
-        let courses = (COURSES[i], COURSES[j]);
-        let [one, other] = pass_two(&rt, alloc, &mut world, (first, first + 1), courses)?;
-        assert!(rt; alone.get(i) == Some(&one), "one of pair {pair}");
-        assert!(rt; alone.get(j) == Some(&other), "the other of pair {pair}");
+        expect_pair(&rt, alloc, &mut world, pair, &alone)?;
     }
     assert_eq!(rt; world.counted(), 0);
     Ok(())

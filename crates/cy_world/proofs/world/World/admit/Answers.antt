@@ -18,8 +18,7 @@ pub invariant_of-self-in_default : goal.invariant_of-self-in_default
 invariant_of-self-in_default c =
     let turn = subst (λ (n : ℕ). IsTurn c.self.inside.latch (entered n) c.enter.new.self) (sym c.number-place.ensures) c.in-Entered.ensures.turn in
     let free = is_free c.self.invariant.0 _ c.number-place.result c.index_mut-seat.result.now c.self.invariant.1 turn.0 turn.1 c.index_mut-seat.ensures.value in
-    let again = c.leave.ensures ∙ ap (after_leave c.enter.new.self) (sym c.number-place.ensures) ∙ left_again c.self.inside.latch c.enter.new.self c.number-place.result turn.0 turn.1 turn.2 in
-    (
+    let again = c.leave.ensures ∙ ap (after_leave c.enter.new.self) (sym c.number-place.ensures) ∙ left_again c.self.inside.latch c.enter.new.self c.number-place.result turn.0 turn.1 turn.2 in (
       c.self.invariant.0,
       same_again c.self.invariant.0 _ c.number-place.result c.index_mut-seat.result.now c.book_seat.new.seat c.leave.new.self c.book_seat.new.book.entries c.self.invariant.1 free.there c.book_seat.ensures.same again c.in_default.ensures.unbooked,
     )
@@ -42,11 +41,10 @@ invariant_of-self-2 c =
     let turn = subst (λ (n : ℕ). IsTurn c.self.inside.latch (entered n) c.enter.new.self) (sym c.number-place.ensures) c.in-Entered.ensures.turn in
     let free = is_free c.self.invariant.0 _ c.number-place.result c.index_mut-seat.result.now c.self.invariant.1 turn.0 turn.1 c.index_mut-seat.ensures.value in
     let unknown = ap (λ (p : WorldParts). find_in c.args.number p.book) c.self.view_is ∙ c.requires.new in
-    let who = c.admit.ensures.who ∙ ap (λ (n : ℕ). Some (record { share = n; number = c.args.number })) (sym c.number-place.ensures) in
-    (
+    let who = c.admit.ensures.who ∙ ap (λ (n : ℕ). Some (record { share = n; number = c.args.number })) (sym c.number-place.ensures) in (
       step.Admit c.args.number ∷ c.self.invariant.0,
       (admit_stands c.self.invariant.0 c.args.number c.number-place.result _ c.index_mut-seat.result.now c.admit.new.self c.retire_if_gone.new.seat c.enter.new.self c.retire_if_gone.new.latch c.book_seat.new.book.entries c.retire_if_gone.new.book.entries
-        c.self.invariant.1 unknown turn.0 turn.1 turn.2 free.there who c.admit.ensures.keeps c.in-Ok.ensures.booked c.retire_if_gone.ensures).stands,
+          c.self.invariant.1 unknown turn.0 turn.1 turn.2 free.there who c.admit.ensures.keeps c.in-Ok.ensures.booked c.retire_if_gone.ensures).stands,
     )
 
 pub returns-clause-takes : goal.returns-clause-takes
@@ -57,4 +55,4 @@ returns-clause-takes c =
     let who = c.admit.ensures.who ∙ ap (λ (n : ℕ). Some (record { share = n; number = c.args.number })) (sym c.number-place.ensures) in
     rw (← c.self.view_is) (λ w stands.
     admit_stands w c.args.number c.number-place.result _ c.index_mut-seat.result.now c.admit.new.self c.retire_if_gone.new.seat c.enter.new.self c.retire_if_gone.new.latch c.book_seat.new.book.entries c.retire_if_gone.new.book.entries
-        stands unknown turn.0 turn.1 turn.2 free.there who c.admit.ensures.keeps c.in-Ok.ensures.booked c.retire_if_gone.ensures)
+    stands unknown turn.0 turn.1 turn.2 free.there who c.admit.ensures.keeps c.in-Ok.ensures.booked c.retire_if_gone.ensures)

@@ -45,8 +45,7 @@ pub invariant_of-self : goal.invariant_of-self
 invariant_of-self c =
     let booked : find_in c.args.number c.self.inside.book.entries ≡ Some (Seated c.in-Some-Seated.place) =
     sym c.get.ensures.value ∙ ap option_copied c.in-Some-Seated.is ∙ ap Some c.in-Some-Seated.field-0-is in
-    let lent = is_lent c.self.invariant.0 _ c.args.number c.in-Some-Seated.place c.index_mut-seat.result.now c.self.invariant.1 booked c.index_mut-seat.ensures.value in
-    (
+    let lent = is_lent c.self.invariant.0 _ c.args.number c.in-Some-Seated.place c.index_mut-seat.result.now c.self.invariant.1 booked c.index_mut-seat.ensures.value in (
       c.self.invariant.0,
       same_stands c.self.invariant.0 _ c.in-Some-Seated.place c.index_mut-seat.result.now c.take.new.self c.self.invariant.1 lent.there c.in_err-reply.ensures.unchanged,
     )
@@ -75,11 +74,10 @@ pub invariant_of-self-2 : goal.invariant_of-self-2
 invariant_of-self-2 c =
     let booked : find_in c.args.number c.self.inside.book.entries ≡ Some (Seated c.in-Some-Seated.place) =
     sym c.get.ensures.value ∙ ap option_copied c.in-Some-Seated.is ∙ ap Some c.in-Some-Seated.field-0-is in
-    let lent = is_lent c.self.invariant.0 _ c.args.number c.in-Some-Seated.place c.index_mut-seat.result.now c.self.invariant.1 booked c.index_mut-seat.ensures.value in
-    (
+    let lent = is_lent c.self.invariant.0 _ c.args.number c.in-Some-Seated.place c.index_mut-seat.result.now c.self.invariant.1 booked c.index_mut-seat.ensures.value in (
       c.args.step.now ∷ c.self.invariant.0,
       (own_stands c.self.invariant.0 c.args.step.now c.args.number c.in-Some-Seated.place _ c.index_mut-seat.result.now c.take.new.self c.retire_if_gone.new.seat c.in_ok-reply.reply _ _
-        c.requires.own c.self.invariant.1 booked lent.there c.take.ensures.who c.take.ensures.kept c.in_ok-reply.ensures.answers c.retire_if_gone.ensures).stands,
+          c.requires.own c.self.invariant.1 booked lent.there c.take.ensures.who c.take.ensures.kept c.in_ok-reply.ensures.answers c.retire_if_gone.ensures).stands,
     )
 
 pub returns-clause-takes : goal.returns-clause-takes
@@ -89,4 +87,4 @@ returns-clause-takes c =
     let lent = is_lent c.self.invariant.0 _ c.args.number c.in-Some-Seated.place c.index_mut-seat.result.now c.self.invariant.1 booked c.index_mut-seat.ensures.value in
     rw (← c.self.view_is) (λ w stands.
     own_stands w c.args.step.now c.args.number c.in-Some-Seated.place _ c.index_mut-seat.result.now c.take.new.self c.retire_if_gone.new.seat c.in_ok-reply.reply _ _
-        c.requires.own stands booked lent.there c.take.ensures.who c.take.ensures.kept c.in_ok-reply.ensures.answers c.retire_if_gone.ensures)
+    c.requires.own stands booked lent.there c.take.ensures.who c.take.ensures.kept c.in_ok-reply.ensures.answers c.retire_if_gone.ensures)
