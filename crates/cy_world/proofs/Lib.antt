@@ -15,3 +15,6 @@ pub mod Telling
 pub mod Charts
 pub mod Numbers
 pub mod Reporting
+pub mod OwnReplies
+pub mod Apart
+pub mod Alike
