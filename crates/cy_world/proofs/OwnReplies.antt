@@ -1,5 +1,5 @@
 -- The replies to a connection are those to its own entries.
-use Rattle.std.proofs.Common.{◌≡◌, ◌≢◌, ℕ, Bool, true, false, not, ◌&&◌, ◌==◌, List, [], ◌∷◌, ◌++◌, Option, Some, None, is_some, option_map, unwrap_or, refl, sym, ap, ◌∙◌, subst, ◌⊎◌, inl, inr, if◌then◌else◌}
+use Rattle.std.proofs.Common.{◌≡◌, ◌≢◌, ℕ, ◌+◌, arith, length, length-append, Bool, true, false, not, ◌&&◌, ◌==◌, List, [], ◌∷◌, ◌++◌, Option, Some, None, is_some, option_map, unwrap_or, refl, sym, ap, ◌∙◌, subst, ◌⊎◌, inl, inr, if◌then◌else◌}
 use Rattle.std.proofs.lemmas.Bool.{cases_eq, eq-eqb, ne_eqb}
 use Rattle.std.proofs.lemmas.List.{append-nil}
 use Rattle.cy_event.specs.declared.limits.Limits.{Limits}
@@ -7,11 +7,11 @@ use Rattle.cy_event.specs.declared.steps.Reply.TheVariants as reply
 use Rattle.cy_event.specs.declared.steps.Step.{Step}
 use Rattle.cy_event.specs.declared.steps.Step.TheVariants as step
 use Rattle.cy_map.specs.declared.rule.Rule.{Rule}
-use Rattle.cy_model.specs.Connections.{History, admits, connections, counted, find_own, kind_of, moment, own, own_entries, own_reply}
+use Rattle.cy_model.specs.Connections.{History, admits, connections, counted, find_own, kind_of, moment, own, own_entries, own_reply, replies, reply_by}
 use Rattle.cy_model.specs.Entries.{Entry, opening, tick, on_act, on_event, on_run, reply_to, trace_of}
 use Rattle.cy_model.specs.Replies.{Replied, plain}
 use Rattle.cy_model.proofs.OwnEntries.{clock_ticks_for_each, own_steps_add_own_entries}
-use Rattle.cy_world.specs.Laws.{RepliesAreOwn, is_in, replies_alone, replies_to, reply_alone}
+use Rattle.cy_world.specs.Laws.{RepliesAreOwn, is_in, is_step_of, marked, own_steps, replies_alone, replies_to, reply_alone}
 
 -- the replies to entries, if there are any
 abbrev alone_of : Limits → List Rule → Option (List (ℕ × Entry)) → List Replied
@@ -118,26 +118,68 @@ admitted limits rules w c d =
       | false ↦ refused (is_some (find_own c hs)) (alone_of limits rules (find_own c hs)) (plain (reply.Full (counted limits rules hs)))
     ]
 
+-- ---- picking
+
+-- the replies to the steps of the connection, one step after another
+abbrev picked : Limits → List Rule → ℕ → List Step → List Replied
+picked limits rules c [] = []
+picked limits rules c (s ∷ w) =
+    picked limits rules c w
+    ++ (if is_step_of c (kind_of s) (is_in limits rules c w) (is_in limits rules c (s ∷ w))
+        then reply_by limits rules (kind_of s) (moment (s ∷ w)) (connections limits rules w) ∷ []
+        else [])
+
+-- one more of each
+marked_last : (vs : List Bool) (rs : List Replied) (v : Bool) (r : Replied) → length vs ≡ length rs
+    → marked (vs ++ v ∷ []) (rs ++ r ∷ []) ≡ marked vs rs ++ (if v then r ∷ [] else [])
+marked_last [] [] v r same = refl
+marked_last [] (q ∷ rs) v r same = absurd (omega (arith, same))
+marked_last (u ∷ vs) [] v r same = absurd (omega (arith, same))
+marked_last (true ∷ vs) (q ∷ rs) v r same = ap (λ (ps : List Replied). q ∷ ps) (marked_last vs rs v r (omega (arith, same)))
+marked_last (false ∷ vs) (q ∷ rs) v r same = marked_last vs rs v r (omega (arith, same))
+
+as_many : (limits : Limits) (rules : List Rule) (c : ℕ) (w : List Step) → length (own_steps limits rules c w) ≡ length (replies limits rules w)
+as_many limits rules c [] = refl
+as_many limits rules c (s ∷ w) =
+    let v = is_step_of c (kind_of s) (is_in limits rules c w) (is_in limits rules c (s ∷ w)) in
+    let r = reply_by limits rules (kind_of s) (moment (s ∷ w)) (connections limits rules w) in
+    length-append (own_steps limits rules c w) (v ∷ [])
+    ∙ ap (λ (n : ℕ). n + 1) (as_many limits rules c w)
+    ∙ sym (length-append (replies limits rules w) (r ∷ []))
+
+are_picked : (limits : Limits) (rules : List Rule) (c : ℕ) (w : List Step) → replies_to limits rules c w ≡ picked limits rules c w
+are_picked limits rules c [] = refl
+are_picked limits rules c (s ∷ w) =
+    let v = is_step_of c (kind_of s) (is_in limits rules c w) (is_in limits rules c (s ∷ w)) in
+    let r = reply_by limits rules (kind_of s) (moment (s ∷ w)) (connections limits rules w) in
+    marked_last (own_steps limits rules c w) (replies limits rules w) v r (as_many limits rules c w)
+    ∙ ap (λ (rs : List Replied). rs ++ (if v then r ∷ [] else [])) (are_picked limits rules c w)
+
+-- ---- each step
+
+each_is_own : (limits : Limits) (rules : List Rule) (w : List Step) (c : ℕ) → picked limits rules c w ≡ alone_of limits rules (own_entries limits rules w c)
+each_is_own limits rules [] c = refl
+each_is_own limits rules (step.At t ∷ w) c =
+    append-nil (picked limits rules c w)
+    ∙ each_is_own limits rules w c
+    ∙ sym (ticked limits rules t (own_entries limits rules w c))
+    ∙ ap (alone_of limits rules) (sym (clock_ticks_for_each limits rules w t c))
+each_is_own limits rules (step.Admit d ∷ w) c =
+    ap (λ (rs : List Replied). rs ++ (if not (is_in limits rules c w) && is_in limits rules c (step.Admit d ∷ w)
+        then plain (if admits limits rules (connections limits rules w) then reply.Entered else reply.Full (counted limits rules (connections limits rules w))) ∷ []
+        else [])) (each_is_own limits rules w c)
+    ∙ admitted limits rules w c d
+each_is_own limits rules (step.On d e b ∷ w) c =
+    ap (λ (rs : List Replied). rs ++ (if is_in limits rules c w && (d == c) then own_reply limits rules (moment w) (own_entries limits rules w d) (on_event e b) ∷ [] else [])) (each_is_own limits rules w c)
+    ∙ stepped limits rules w (step.On d e b) c d (on_event e b) refl (λ es. refl)
+each_is_own limits rules (step.Run d ∷ w) c =
+    ap (λ (rs : List Replied). rs ++ (if is_in limits rules c w && (d == c) then own_reply limits rules (moment w) (own_entries limits rules w d) on_run ∷ [] else [])) (each_is_own limits rules w c)
+    ∙ stepped limits rules w (step.Run d) c d on_run refl (λ es. refl)
+each_is_own limits rules (step.Act d a b ∷ w) c =
+    ap (λ (rs : List Replied). rs ++ (if is_in limits rules c w && (d == c) then own_reply limits rules (moment w) (own_entries limits rules w d) (on_act a b) ∷ [] else [])) (each_is_own limits rules w c)
+    ∙ stepped limits rules w (step.Act d a b) c d (on_act a b) refl (λ es. refl)
+
 -- ---- the law
 
 pub replies_are_own : RepliesAreOwn
-replies_are_own limits rules [] c = refl
-replies_are_own limits rules (step.At t ∷ w) c =
-    append-nil (replies_to limits rules c w)
-    ∙ replies_are_own limits rules w c
-    ∙ sym (ticked limits rules t (own_entries limits rules w c))
-    ∙ ap (alone_of limits rules) (sym (clock_ticks_for_each limits rules w t c))
-replies_are_own limits rules (step.Admit d ∷ w) c =
-    ap (λ (rs : List Replied). rs ++ (if not (is_in limits rules c w) && is_in limits rules c (step.Admit d ∷ w)
-        then plain (if admits limits rules (connections limits rules w) then reply.Entered else reply.Full (counted limits rules (connections limits rules w))) ∷ []
-        else [])) (replies_are_own limits rules w c)
-    ∙ admitted limits rules w c d
-replies_are_own limits rules (step.On d e b ∷ w) c =
-    ap (λ (rs : List Replied). rs ++ (if is_in limits rules c w && (d == c) then own_reply limits rules (moment w) (own_entries limits rules w d) (on_event e b) ∷ [] else [])) (replies_are_own limits rules w c)
-    ∙ stepped limits rules w (step.On d e b) c d (on_event e b) refl (λ es. refl)
-replies_are_own limits rules (step.Run d ∷ w) c =
-    ap (λ (rs : List Replied). rs ++ (if is_in limits rules c w && (d == c) then own_reply limits rules (moment w) (own_entries limits rules w d) on_run ∷ [] else [])) (replies_are_own limits rules w c)
-    ∙ stepped limits rules w (step.Run d) c d on_run refl (λ es. refl)
-replies_are_own limits rules (step.Act d a b ∷ w) c =
-    ap (λ (rs : List Replied). rs ++ (if is_in limits rules c w && (d == c) then own_reply limits rules (moment w) (own_entries limits rules w d) (on_act a b) ∷ [] else [])) (replies_are_own limits rules w c)
-    ∙ stepped limits rules w (step.Act d a b) c d (on_act a b) refl (λ es. refl)
+replies_are_own limits rules w c = are_picked limits rules c w ∙ each_is_own limits rules w c

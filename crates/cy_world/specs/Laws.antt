@@ -7,7 +7,7 @@ use Rattle.cy_event.specs.declared.steps.Step.{Step}
 use Rattle.cy_event.specs.declared.steps.Step.TheVariants as step
 use Rattle.cy_latch.specs.Numbers.{is_out}
 use Rattle.cy_map.specs.declared.rule.Rule.{Rule}
-use Rattle.cy_model.specs.Connections.{Kind, admission, clock, connections, counted, kind_of, moment, own, own_entries, reply_by}
+use Rattle.cy_model.specs.Connections.{Kind, admission, clock, connections, counted, kind_of, own, own_entries, replies}
 use Rattle.cy_model.specs.Entries.{Entry, opening, tick, ended_count, on_act, on_event, on_run, reply_to, trace_of}
 use Rattle.cy_model.specs.Folds.{cause_of, charts}
 use Rattle.cy_model.specs.Outputs.{output, took}
@@ -32,14 +32,21 @@ is_step_of c (clock t) before now = false
 is_step_of c (admission d) before now = not before && now
 is_step_of c (own d e) before now = before && (d == c)
 
--- the replies to the steps of the connection of this number, from its admission on, the first first
+-- which of the steps are of the connection of this number, the first first
+abbrev pub own_steps : Limits → List Rule → ℕ → List Step → List Bool
+own_steps limits rules c [] = []
+own_steps limits rules c (s ∷ w) =
+    own_steps limits rules c w ++ is_step_of c (kind_of s) (is_in limits rules c w) (is_in limits rules c (s ∷ w)) ∷ []
+
+-- those that are marked
+abbrev pub marked : List Bool → List Replied → List Replied
+marked [] rs = []
+marked (v ∷ vs) [] = []
+marked (v ∷ vs) (r ∷ rs) = let rest = marked vs rs in if v then r ∷ rest else rest
+
+-- of the replies to all steps those to the connection of this number, from its admission on, the first first
 abbrev pub replies_to : Limits → List Rule → ℕ → List Step → List Replied
-replies_to limits rules c [] = []
-replies_to limits rules c (s ∷ w) =
-    replies_to limits rules c w
-    ++ (if is_step_of c (kind_of s) (is_in limits rules c w) (is_in limits rules c (s ∷ w))
-        then reply_by limits rules (kind_of s) (moment (s ∷ w)) (connections limits rules w) ∷ []
-        else [])
+replies_to limits rules c w = marked (own_steps limits rules c w) (replies limits rules w)
 
 -- What an entry is answered after those before it. A tick has no reply of its own: it is no step of the connection.
 abbrev pub reply_alone : Limits → List Rule → ℕ → List (ℕ × Entry) → Entry → List Replied
