@@ -23,6 +23,7 @@ use Rattle.cy_world.specs.declared.settings.Settings.{Settings}
 use Rattle.cy_world.specs.declared.world.Admitted.{Admitted}
 use Rattle.cy_world.specs.declared.world.Admitted.TheVariants.{Seated}
 use Rattle.cy_world.proofs.Admitting.{count_within, none_found}
+use Rattle.cy_world.proofs.Guests.{HavePlacesApart, out_is_booked}
 use Rattle.cy_world.proofs.Stepping.{all_of, found, some}
 
 -- ---- places
@@ -60,14 +61,25 @@ one_guest p c d i j mine other same =
     ap (λ (who : Who). who.number) (some (record { share = i; number = c }) (record { share = j; number = d })
         (some (Some (record { share = i; number = c })) (Some (record { share = j; number = d })) one))
 
+two_places : (w : List Step) (p : WorldParts) → StandsFor w p → HavePlacesApart p
+two_places w p stands c d i j one other away same =
+    away (ap (λ (who : Who). who.number) (one_number p j (record { share = i; number = c }) (record { share = j; number = d })
+        (subst (λ (n : ℕ). IsHeldFor (record { share = i; number = c }) n p) same (held_for w p c i stands one))
+        (held_for w p d j stands other)))
+
+-- for whom a place is held, the book has that place
+guest_booked : (w : List Step) (p : WorldParts) (who : Who) (i : ℕ) → StandsFor w p → IsHeldFor who i p → find_in who.number p.book ≡ Some (Seated i)
+guest_booked w p who i stands held =
+    let booked = out_is_booked w p i stands (two_places w p stands) (share_of w p who i stands held).1 in
+    let same = one_number p i (record { share = i; number = booked.0 }) who (held_for w p booked.0 i stands booked.1) held in
+    ap (λ (x : Who). find_in x.number p.book) (sym same) ∙ booked.1
+
 pub two_sit_in_two_slots : TwoSitInTwoSlots
 two_sit_in_two_slots w p stands = record {
   held = λ c i booked. held_for w p c i stands booked;
-  places = λ c d i j one other away same.
-      away (ap (λ (who : Who). who.number) (one_number p j (record { share = i; number = c }) (record { share = j; number = d })
-          (subst (λ (n : ℕ). IsHeldFor (record { share = i; number = c }) n p) same (held_for w p c i stands one))
-          (held_for w p d j stands other)));
+  places = λ c d i j one other. two_places w p stands c d i j one other;
   share = λ who i held. share_of w p who i stands held;
+  booked = λ who i held. guest_booked w p who i stands held;
   slots = λ c d i j mine other away same. away (one_guest p c d i j mine other same);
 }
 
@@ -104,6 +116,13 @@ free_place w p stands less =
 
 -- ---- admissions
 
+-- whether one more may be counted
+abbrev may_admit : WorldParts → List Step → Bool
+may_admit p w = admits p.settings.limits p.settings.rules (all_of p w)
+
+abbrev most_in : WorldParts → ℕ
+most_in p = p.settings.limits.max_connections
+
 -- what an admission is answered, by whether one more may be counted
 abbrev answer_by : Bool → ℕ → Replied
 answer_by v n = plain (if v then reply.Entered else reply.Full n)
@@ -123,7 +142,7 @@ in_book s seats c entries (Some es) (Some a) is stands = refl
 
 -- an accepted admission gets into the book
 gets_in : (w : List Step) (p q : WorldParts) (c : ℕ) → StandsFor w p → find_in c p.book ≡ None → StandsFor (step.Admit c ∷ w) q → q.settings ≡ p.settings
-    → admits p.settings.limits p.settings.rules (all_of p w) ≡ true → is_some (find_in c q.book) ≡ true
+    → may_admit p w ≡ true → is_some (find_in c q.book) ≡ true
 gets_in w p q c stands unknown after same admitted =
     let s = p.settings in
     let hs = all_of p w in
@@ -138,24 +157,25 @@ not_both v is is_not = cc
 
 admits_by_count : (w : List Step) (p q : WorldParts) (c : ℕ) (r : Replied) → StandsFor w p → CanTake (step.Admit c) p → TakesStep w (step.Admit c) p r q → q.settings ≡ p.settings
     → AdmitsByCount w c p r q
-admits_by_count w p q c r stands unknown takes same = by_order (cases_lt (counted_in p w) p.settings.limits.max_connections)
+admits_by_count w p q c r stands unknown takes same = by_order (cases_lt (counted_in p w) (most_in p))
   where
-    by_order : (counted_in p w < p.settings.limits.max_connections) ⊎ (p.settings.limits.max_connections ≤ counted_in p w) → AdmitsByCount w c p r q
+    by_order : (counted_in p w < most_in p) ⊎ (most_in p ≤ counted_in p w) → AdmitsByCount w c p r q
     by_order (inl less) =
-        let may : admits p.settings.limits p.settings.rules (all_of p w) ≡ true = lt-ltb (counted_in p w) p.settings.limits.max_connections less in
+        let may : may_admit p w ≡ true = lt-ltb (counted_in p w) (most_in p) less in
         record {
           full = (
-            λ is. absurd (not_both (admits p.settings.limits p.settings.rules (all_of p w)) may (only_full (admits p.settings.limits p.settings.rules (all_of p w)) (counted_in p w) p.settings.limits.max_connections (sym takes.reply ∙ is)).0),
+            λ is. absurd (not_both (may_admit p w) may
+                (only_full (may_admit p w) (counted_in p w) (most_in p) (sym takes.reply ∙ is)).0),
             λ is. absurd (omega (arith, less, is)),
           );
-          entered = (λ is. less, λ is. takes.reply ∙ ap (λ (b : Bool). answer_by b (counted_in p w)) may);
+          entered = (λ is. omega (arith, less), λ is. takes.reply ∙ ap (λ (b : Bool). answer_by b (counted_in p w)) may);
           booked = λ is. gets_in w p q c stands unknown takes.stands same may;
         }
     by_order (inr all_are) =
-        let may_not : admits p.settings.limits p.settings.rules (all_of p w) ≡ false = le-ltb (counted_in p w) p.settings.limits.max_connections all_are in
-        let within : counted_in p w ≤ p.settings.limits.max_connections = omega (arith, count_within p.latch, stands.counted, stands.places.latch) in
+        let may_not : may_admit p w ≡ false = le-ltb (counted_in p w) (most_in p) all_are in
+        let within : counted_in p w ≤ most_in p = omega (arith, count_within p.latch, stands.counted, stands.places.latch) in
         let clash : r ≡ plain reply.Entered → ⊥ = λ is.
-        not_both (admits p.settings.limits p.settings.rules (all_of p w)) (only_entered (admits p.settings.limits p.settings.rules (all_of p w)) (counted_in p w) (sym takes.reply ∙ is)) may_not in
+        not_both (may_admit p w) (only_entered (may_admit p w) (counted_in p w) (sym takes.reply ∙ is)) may_not in
         record {
           full = (
             λ is. omega (arith, within, all_are),

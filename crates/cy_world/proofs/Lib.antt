@@ -16,5 +16,6 @@ pub mod Charts
 pub mod Numbers
 pub mod Reporting
 pub mod OwnReplies
+pub mod Guests
 pub mod Apart
 pub mod Alike

@@ -128,6 +128,8 @@ pub record SitApart (p : WorldParts) : Type 0 where
   pub places : (c d i j : ℕ) → find_in c p.book ≡ Some (Seated i) → find_in d p.book ≡ Some (Seated j) → c ≢ d → i ≢ j
   -- a place is held under the share of its number, which is out
   pub share : (who : Who) (i : ℕ) → IsHeldFor who i p → (who.share ≡ i) × (is_out p.latch i ≡ true) × (i < p.settings.limits.max_connections)
+  -- and for a connection that the book has with this place
+  pub booked : (who : Who) (i : ℕ) → IsHeldFor who i p → find_in who.number p.book ≡ Some (Seated i)
   -- two connections sit in two slots
   pub slots : (c d i j : ℕ) → SitsIn c i p → SitsIn d j p → c ≢ d → i ≢ j
 

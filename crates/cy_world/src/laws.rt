@@ -19,7 +19,7 @@ pub fn counted_never_exceed()
 {}
 
 /// Two connections have two places, and sit in two slots. Each place that is held is held under the share of its own
-/// number, which is out and below the limit.
+/// number, which is out and below the limit, and for a connection that the book has with this place.
 pub fn two_sit_in_two_slots()
     ensures { TwoSitInTwoSlots }
 {}
