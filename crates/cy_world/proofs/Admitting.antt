@@ -33,7 +33,7 @@ none_found s seats c None a none stands = refl
 none_found s seats c (Some es) a none stands = absurd (subst (λ (b : Option Admitted). StandsForOne s seats c (Some es) b) none stands)
 
 -- no more numbers are out than there are
-count_within : (latch : List Bool) → count_out latch ≤ length latch
+pub count_within : (latch : List Bool) → count_out latch ≤ length latch
 count_within [] = omega arith
 count_within (v ∷ vs) = omega (arith, sum_by-cons (λ (b : Bool). cond b 1 0) v vs, count_within vs, at_most_one v)
   where

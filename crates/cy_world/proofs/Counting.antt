@@ -77,7 +77,7 @@ module _ (limits : Limits) (rules : List Rule) where
   one_of : History → ℕ
   one_of h = one h.entries
 
-  count_first : (h : History) (hs : List History) → counted limits rules (h ∷ hs) ≡ one h.entries + counted limits rules hs
+  pub count_first : (h : History) (hs : List History) → counted limits rules (h ∷ hs) ≡ one h.entries + counted limits rules hs
   unfolding one_of
   count_first h hs = sum_by-cons one_of h hs
 

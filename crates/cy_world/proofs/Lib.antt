@@ -15,3 +15,7 @@ pub mod Telling
 pub mod Charts
 pub mod Numbers
 pub mod Reporting
+pub mod OwnReplies
+pub mod Guests
+pub mod Apart
+pub mod Alike

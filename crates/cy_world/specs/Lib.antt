@@ -5,3 +5,4 @@ pub mod Worlds
 pub mod Told
 pub mod Faults
 pub mod Reporting
+pub mod Laws

@@ -9,7 +9,7 @@ use Rattle.cy_model.specs.Folds.{cause_of, charts}
 use Rattle.cy_model.specs.Marks.{Trace}
 use Rattle.cy_model.specs.Outputs.{took}
 use Rattle.cy_model.specs.Replies.{Replied as AnyReplied}
-use Rattle.cy_slot.specs.Reaching.{who_is}
+use Rattle.cy_slot.specs.Reaching.{Who, who_is}
 use Rattle.cy_slot.specs.Slots.{SlotParts}
 use Rattle.cy_world.specs.Answered.{Keeps, Parts, SeatParts}
 use Rattle.cy_world.specs.Worlds.{WorldParts}
@@ -46,6 +46,10 @@ slot_at i p = option_map (λ (seat : SeatParts). seat.place.slot) (slice_get p.s
 -- the connection of this number sits in that slot
 abbrev pub SitsIn : ℕ → ℕ → WorldParts → Type 0
 SitsIn c i p = option_map (λ (slot : SlotParts). who_is slot.tenant) (slot_at i p) ≡ Some (Some (record { share = i; number = c }))
+
+-- the place of this number is held for him
+abbrev pub IsHeldFor : Who → ℕ → WorldParts → Type 0
+IsHeldFor who i p = option_map (λ (seat : SeatParts). seat.place.who) (slice_get p.seats i) ≡ Some (Some who)
 
 -- ---- lists of steps
 

@@ -12,7 +12,7 @@ ghost use Rattle.cy_proc.specs.LineChanges.{is_due, work_of};
 ghost use Rattle.cy_proc.specs.Processors.{fresh_processor, is_open_at, is_over_at};
 ghost use Rattle.cy_rings.specs.declared.kit.TheConstants.{IN_CAPACITY, OUT_CAPACITY};
 ghost use Rattle.cy_world.specs.Lives.{KeepsEach, LeavesNoMoreWork, LivesAfterAct, LivesAfterEvent, LivesAfterTurn, RestsEach, SettlesEach, SettlesOne};
-ghost use Rattle.cy_slot.specs.Reaching.{who_is};
+ghost use Rattle.cy_slot.specs.Reaching.{Who, who_is};
 ghost use Rattle.cy_slot.specs.declared.slot.TheConstants.{GREATEST_TENANCY};
 ghost use Rattle.cy_world.specs.Places.{HasRoom, IsSameButRoom, Lives, stands_due};
 
@@ -101,9 +101,10 @@ impl Place {
         })
     }
 
-    /// The slot.
+    /// The slot. Whoever sits in it is he for whom the place is held.
     pub fn slot(&self) -> &Slot
         ensures slot { result.now ≡ self.now.slot }
+        ensures guest { (w : Who) → who_is result.now.tenant ≡ Some w → self.now.who ≡ Some w }
         ensures processor { result.now.processor ≡ self.now.live.processor }
     {
         &self.slot

@@ -7,7 +7,7 @@ ghost use Rattle.cy_model.specs.Outputs.{is_gone, took};
 ghost use Rattle.cy_model.specs.Marks.{Trace};
 ghost use Rattle.cy_model.specs.Steps.{IsWithinBytes};
 ghost use Rattle.cy_proc.specs.Processors.{is_open_at, is_over_at};
-ghost use Rattle.cy_slot.specs.Reaching.{who_is};
+ghost use Rattle.cy_slot.specs.Reaching.{Who, who_is};
 ghost use Rattle.cy_rings.specs.declared.kit.TheConstants.{OUT_CAPACITY};
 ghost use Rattle.cy_world.specs.Answered.{AnswersEach, AnswersKind, IsOwn, IsSameButRooms, IsVacant, Keeps, Tells, TellsEach, charts_asked, is_closed_reply, parts_of, seat_parts, start};
 ghost use Rattle.cy_world.specs.Places.{HasRoom, Lives};
@@ -110,9 +110,10 @@ impl Seat {
         self.place.charts()
     }
 
-    /// The slot of the place.
+    /// The slot of the place. Whoever sits in it is he for whom the place is held.
     pub fn slot(&self) -> &Slot
         ensures slot { result.now ≡ self.now.place.slot }
+        ensures guest { (w : Who) → who_is result.now.tenant ≡ Some w → self.now.place.who ≡ Some w }
         ensures processor { result.now.processor ≡ self.now.place.live.processor }
     {
         self.place.slot()

@@ -11,10 +11,11 @@ ghost use Rattle.cy_model.specs.Folds.{cause_of, is_open};
 ghost use Rattle.cy_model.specs.Outputs.{output, took};
 ghost use Rattle.cy_model.specs.Replies.{plain};
 ghost use Rattle.cy_proc.specs.Processors.{is_over_at};
+ghost use Rattle.cy_slot.specs.Reaching.{Who, who_is};
 ghost use Rattle.cy_world.specs.Answered.{IsOwn, IsSameButRooms, IsVacant};
 ghost use Rattle.cy_world.specs.Faults.{IsFaultOf};
 ghost use Rattle.cy_world.specs.declared.world.Admitted.TheVariants.{Seated};
-ghost use Rattle.cy_world.specs.Told.{SitsIn, replied, request_count, slot_at, tally_of, told_of};
+ghost use Rattle.cy_world.specs.Told.{IsHeldFor, SitsIn, replied, request_count, slot_at, tally_of, told_of};
 ghost use Rattle.cy_world.specs.Places.{HasRoom};
 ghost use Rattle.cy_world.specs.Worlds.{CanTake, IsOwnOf, PutsDown, Retires, StandsFor, TakesStep, find_in};
 
@@ -235,10 +236,11 @@ impl World {
         self.latch.count()
     }
 
-    /// The slot of this number.
+    /// The slot of this number. Whoever sits in it is he for whom the place of that number is held.
     pub fn slot(&self, i: u32) -> &Slot
         requires within { i < self.now.settings.limits.max_connections }
-        ensures { slot_at i self.now ≡ Some result.now }
+        ensures slot { slot_at i self.now ≡ Some result.now }
+        ensures guest { (who : Who) → who_is result.now.tenant ≡ Some who → IsHeldFor who i self.now }
     {
         self.seats[i as usize].slot()
     }
