@@ -28,11 +28,11 @@ pub record Parts : Type 0 where
   pub live : LiveParts
   pub written : List ℕ
 
-abbrev pub parts_of : PlaceParts → List ℕ → Parts
-parts_of p written = record { live = p.live; written = written }
+abbrev pub parts_with : PlaceParts → List ℕ → Parts
+parts_with p written = record { live = p.live; written = written }
 
 abbrev pub seat_parts : SeatParts → Parts
-seat_parts s = parts_of s.place s.written
+seat_parts s = parts_with s.place s.written
 
 -- the only moment so far, since no step of the clock is in the form
 abbrev pub start : ℕ

@@ -75,7 +75,7 @@ TellAlike {X} told p q =
     (a b : X) → ((u : List Step) → StandsFor u p → a ≡ told p u) → ((u : List Step) → StandsFor u q → b ≡ told q u) → a ≡ b
 
 -- two connectors answered a connection alike, and tell the same of it, each function by its contract
-pub record AreAlike (p : WorldParts) (v : List Step) (q : WorldParts) (w : List Step) (c : ℕ) : Type 0 where
+pub record AreToldAlike (p : WorldParts) (v : List Step) (q : WorldParts) (w : List Step) (c : ℕ) : Type 0 where
   pub replies : replies_to p.settings.limits p.settings.rules c v ≡ replies_to q.settings.limits q.settings.rules c w
   pub out : TellAlike (λ r u. told_of output r u c) p q
   pub took : TellAlike (λ r u. told_of took r u c) p q
@@ -89,7 +89,7 @@ pub record AreAlike (p : WorldParts) (v : List Step) (q : WorldParts) (w : List 
 abbrev pub OwnStepsDecide : Type 0
 OwnStepsDecide =
     (v w : List Step) (p q : WorldParts) (c : ℕ) → StandsFor v p → StandsFor w q → p.settings ≡ q.settings
-    → HasSameEntries p v q w c → AreAlike p v q w c
+    → HasSameEntries p v q w c → AreToldAlike p v q w c
 
 -- ---- counts
 

@@ -54,8 +54,8 @@ abbrev pub tenants_by : Option SlotParts → SlotParts → ℕ
 tenants_by (Some spare) s = GREATEST_TENANCY
 tenants_by None s = GREATEST_TENANCY - s.tenancy
 
-abbrev pub place_of : Limits → SlotParts → Option SlotParts → Option Idle → List (List ChartItem) → ℕ → PlaceParts
-place_of limits slot spare idle charts room = record {
+abbrev pub place_parts : Limits → SlotParts → Option SlotParts → Option Idle → List (List ChartItem) → ℕ → PlaceParts
+place_parts limits slot spare idle charts room = record {
   live = record { limits = limits; line = line_at idle slot; processor = slot.processor; charts = charts };
   who = who_at idle slot;
   slot = slot;
@@ -89,7 +89,7 @@ pub record IsPlace (limits : Limits) (slot : SlotParts) (spare : Option SlotPart
   pub field_room : limits.max_fields ≤ FIELD_ROOM
   pub seated : IsSeated idle limits slot
   pub spare_fresh : IsFresh limits spare
-  pub alive : IsAlive (place_of limits slot spare idle charts room).live
+  pub alive : IsAlive (place_parts limits slot spare idle charts room).live
 
 -- ---- room
 

@@ -54,11 +54,11 @@ pub struct Place {
 
 impl Model for Place {
     ghost use Rattle.std.specs.Prelude.{vec_capacity};
-    ghost use Rattle.cy_world.specs.Places.{IsPlace, PlaceParts, place_of};
+    ghost use Rattle.cy_world.specs.Places.{IsPlace, PlaceParts, place_parts};
 
     ghost Value = { PlaceParts };
 
-    ghost view = { λ p. place_of p.limits p.slot p.spare p.idle p.charts.items (vec_capacity p.charts) };
+    ghost view = { λ p. place_parts p.limits p.slot p.spare p.idle p.charts.items (vec_capacity p.charts) };
 
     // It stands for some trace.
     ghost invariant = { λ p. IsPlace p.limits p.slot p.spare p.idle p.charts.items (vec_capacity p.charts) };

@@ -9,7 +9,7 @@ ghost use Rattle.cy_model.specs.Steps.{IsWithinBytes};
 ghost use Rattle.cy_proc.specs.Processors.{is_open_at, is_over_at};
 ghost use Rattle.cy_slot.specs.Reaching.{Who, who_is};
 ghost use Rattle.cy_rings.specs.declared.kit.TheConstants.{OUT_CAPACITY};
-ghost use Rattle.cy_world.specs.Answered.{AnswersEach, AnswersKind, IsOwn, IsSameButRooms, IsVacant, Keeps, Tells, TellsEach, charts_asked, is_closed_reply, parts_of, seat_parts, start};
+ghost use Rattle.cy_world.specs.Answered.{AnswersEach, AnswersKind, IsOwn, IsSameButRooms, IsVacant, Keeps, Tells, TellsEach, charts_asked, is_closed_reply, parts_with, seat_parts, start};
 ghost use Rattle.cy_world.specs.Places.{HasRoom, Lives};
 ghost use Rattle.cy_world.specs.Told.{TalliesEach, tally_of};
 
@@ -252,7 +252,7 @@ fn take_own(
     requires guest { is_some place.old.who ≡ true }
     requires room { HasRoom (charts_asked step.now) place.old }
     requires writing_room { vec_len written.old + OUT_CAPACITY ≤ vec_capacity written.old }
-    ensures answers { IfOk result (λ r. AnswersKind settings.now (kind_of step.now) (parts_of place.old written.old.items) r (parts_of place.new written.new.items)) }
+    ensures answers { IfOk result (λ r. AnswersKind settings.now (kind_of step.now) (parts_with place.old written.old.items) r (parts_with place.new written.new.items)) }
     ensures who { place.new.who ≡ place.old.who }
     ensures kept { is_over_at place.new.live.processor.stage ≡ false }
     ensures unchanged { OnErr result (place.new ≡ place.old) }
@@ -280,7 +280,7 @@ fn take_event(
     requires guest { is_some place.old.who ≡ true }
     requires room { HasRoom (length bytes.now) place.old }
     requires writing_room { vec_len written.old + OUT_CAPACITY ≤ vec_capacity written.old }
-    ensures answers { AnswersEach settings.now (on_event event bytes.now) (parts_of place.old written.old.items) result (parts_of place.new written.new.items) }
+    ensures answers { AnswersEach settings.now (on_event event bytes.now) (parts_with place.old written.old.items) result (parts_with place.new written.new.items) }
     ensures who { place.new.who ≡ place.old.who }
     ensures kept { is_over_at place.new.live.processor.stage ≡ false }
 {
@@ -300,7 +300,7 @@ fn take_turn(place: &mut Place, written: &mut Vec<u8>, settings: &Settings) -> R
     requires guest { is_some place.old.who ≡ true }
     requires room { HasRoom 0 place.old }
     requires writing_room { vec_len written.old + OUT_CAPACITY ≤ vec_capacity written.old }
-    ensures answers { AnswersEach settings.now on_run (parts_of place.old written.old.items) result (parts_of place.new written.new.items) }
+    ensures answers { AnswersEach settings.now on_run (parts_with place.old written.old.items) result (parts_with place.new written.new.items) }
     ensures who { place.new.who ≡ place.old.who }
     ensures kept { is_over_at place.new.live.processor.stage ≡ false }
 {
@@ -323,7 +323,7 @@ fn take_act(
     requires room { HasRoom 1 place.old }
     requires within { IsWithinBytes act.now bytes.now }
     requires writing_room { vec_len written.old + OUT_CAPACITY ≤ vec_capacity written.old }
-    ensures answers { IfOk result (λ r. AnswersEach settings.now (on_act act.now bytes.now) (parts_of place.old written.old.items) r (parts_of place.new written.new.items)) }
+    ensures answers { IfOk result (λ r. AnswersEach settings.now (on_act act.now bytes.now) (parts_with place.old written.old.items) r (parts_with place.new written.new.items)) }
     ensures who { place.new.who ≡ place.old.who }
     ensures kept { is_over_at place.new.live.processor.stage ≡ false }
     ensures unchanged { OnErr result (place.new ≡ place.old) }
