@@ -133,17 +133,22 @@ pub(super) fn each_alone(rt: &impl Abort, alloc: Global) -> Result<Vec<Vec<u8>>,
     Ok(all)
 }
 
+/// That a connection gets behind each other one what it gets alone.
+fn expect_behind_each(rt: &impl Abort, alloc: Global, next: &str) -> Result<(), Fail> {
+    let wanted = alone(rt, alloc, next)?;
+    for former in &COURSES {
+        let mut world = world(alloc, 1)?;
+        let _former = served(rt, alloc, &mut world, 1, former)?;
+        let got = served(rt, alloc, &mut world, 2, next)?;
+        assert!(rt; got == wanted, "{next} behind {former}");
+    }
+    Ok(())
+}
+
 #[test]
 fn the_next_connection_finds_nothing_of_the_former(rt: HostRuntime) -> Result<(), Fail> {
-    let alloc = rt.alloc();
-    for next in COURSES {
-        let wanted = alone(&rt, alloc, next)?;
-        for former in COURSES {
-            let mut world = world(alloc, 1)?;
-            let _former = served(&rt, alloc, &mut world, 1, former)?;
-            let got = served(&rt, alloc, &mut world, 2, next)?;
-            assert!(rt; got == wanted, "{next} behind {former}");
-        }
+    for next in &COURSES {
+        expect_behind_each(&rt, rt.alloc(), next)?;
     }
     Ok(())
 }
@@ -195,6 +200,59 @@ fn a_place_serves_one_connection_behind_the_other(rt: HostRuntime) -> Result<(),
     Ok(())
 }
 
+/// A connection that goes through the course of this number, how far it is, and what it was answered.
+#[derive(Drop)]
+pub(super) struct Guest {
+    course: usize,
+    place: usize,
+    answers: Vec<u8>,
+}
+
+impl Guest {
+    pub(super) fn of(alloc: Global, course: usize) -> Guest {
+        Guest {
+            course,
+            place: 0,
+            answers: Vec::new(alloc),
+        }
+    }
+}
+
+/// Takes the next step of a connection, if there is one.
+pub(super) fn turn_to(
+    rt: &impl Abort,
+    alloc: Global,
+    world: &mut World,
+    conn: u64,
+    guest: &mut Guest,
+) -> Result<(), Fail> {
+    if let Some(course) = COURSES.get(guest.course) {
+        let line = course.lines().nth(guest.place);
+        go_on(rt, alloc, world, conn, line, &mut guest.answers)?;
+        guest.place = guest.place.saturating_add(1);
+    }
+    Ok(())
+}
+
+/// That the connection got what one gets that is alone, where this is what each course gets so.
+pub(super) fn expect_alone(
+    rt: &impl Abort,
+    alloc: Global,
+    world: &World,
+    conn: u64,
+    guest: &mut Guest,
+    alone: &[Vec<u8>],
+) -> Result<(), Fail> {
+    tell(alloc, world, conn, &mut guest.answers)?;
+    let wanted = alone.get(guest.course);
+    assert!(rt;
+        wanted == Some(&guest.answers),
+        "{conn} with course {}",
+        guest.course
+    );
+    Ok(())
+}
+
 /// How many pairs of connections pass through the two slots.
 const PAIRS: u32 = 1_000;
 
@@ -203,60 +261,17 @@ fn pass_two(
     rt: &impl Abort,
     alloc: Global,
     world: &mut World,
-    conns: (u64, u64),
-    courses: (&str, &str),
-) -> Result<(Vec<u8>, Vec<u8>), Fail> {
-    let mut one = Vec::new(alloc);
-    let mut other = Vec::new(alloc);
-    for i in 0..12 {
-        go_on(
-            rt,
-            alloc,
-            world,
-            conns.0,
-            courses.0.lines().nth(i),
-            &mut one,
-        )?;
-        if let Some(behind) = i.checked_sub(4) {
-            go_on(
-                rt,
-                alloc,
-                world,
-                conns.1,
-                courses.1.lines().nth(behind),
-                &mut other,
-            )?;
-        }
-    }
-    for i in 8..12 {
-        go_on(
-            rt,
-            alloc,
-            world,
-            conns.1,
-            courses.1.lines().nth(i),
-            &mut other,
-        )?;
-    }
-    tell(alloc, world, conns.0, &mut one)?;
-    tell(alloc, world, conns.1, &mut other)?;
-    Ok((one, other))
-}
-
-/// That the two connections of a pair get what each gets alone.
-fn expect_pair(
-    rt: &impl Abort,
-    alloc: Global,
-    world: &mut World,
-    pair: u32,
-    alone: &[Vec<u8>],
+    first: u64,
+    one: &mut Guest,
+    other: &mut Guest,
 ) -> Result<(), Fail> {
-    let (i, j) = (pair as usize % 8, pair as usize / 8 % 8);
-    let first = u64::from(pair) * 2;
-    let courses = (COURSES[i], COURSES[j]);
-    let (one, other) = pass_two(rt, alloc, world, (first, first + 1), courses)?;
-    assert!(rt; alone.get(i) == Some(&one), "one of pair {pair}");
-    assert!(rt; alone.get(j) == Some(&other), "the other of pair {pair}");
+    for _ in 0..4 {
+        turn_to(rt, alloc, world, first, one)?;
+    }
+    for _ in 0..12 {
+        turn_to(rt, alloc, world, first.saturating_add(1), other)?;
+        turn_to(rt, alloc, world, first, one)?;
+    }
     Ok(())
 }
 
@@ -266,7 +281,12 @@ fn many_connections_pass_through_two_slots(rt: HostRuntime) -> Result<(), Fail> 
     let alone = each_alone(&rt, alloc)?;
     let mut world = world(alloc, 2)?;
     for pair in 0..PAIRS {
-        expect_pair(&rt, alloc, &mut world, pair, &alone)?;
+        let first = u64::from(pair) * 2;
+        let mut one = Guest::of(alloc, pair as usize % 8);
+        let mut other = Guest::of(alloc, pair as usize / 8 % 8);
+        pass_two(&rt, alloc, &mut world, first, &mut one, &mut other)?;
+        expect_alone(&rt, alloc, &world, first, &mut one, &alone)?;
+        expect_alone(&rt, alloc, &world, first + 1, &mut other, &alone)?;
     }
     assert_eq!(rt; world.counted(), 0);
     Ok(())
