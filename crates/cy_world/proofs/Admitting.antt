@@ -1,17 +1,16 @@
 -- An admission: the connector stands for the steps with it, whether one may still be counted or not.
-use Rattle.std.proofs.Common.{◌≡◌, ◌≢◌, ◌≤◌, ◌<◌, ℕ, ◌+◌, Bool, true, false, cond, not, List, [], ◌∷◌, ◌++◌, length, set, Option, Some, None, is_some, refl, sym, ap, ◌∙◌, subst, arith, ◌⊎◌, inl, inr, if◌then◌else◌}
-use Rattle.std.specs.Prelude.{nat_lt, slice_get}
+use Rattle.std.proofs.Common.{◌≡◌, ◌≢◌, ◌≤◌, ◌<◌, ℕ, ◌+◌, Bool, true, false, cond, List, [], ◌∷◌, ◌++◌, length, set, Option, Some, None, is_some, refl, sym, ap, ◌∙◌, subst, arith, ◌⊎◌, inl, inr, if◌then◌else◌}
+use Rattle.std.specs.Prelude.{slice_get}
 use Rattle.std.proofs.lemmas.Bool.{cases_eq, le-ltb, lt-ltb}
 use Rattle.std.proofs.lemmas.List.{length-set}
 use Rattle.std.proofs.lemmas.List.Sums.{sum_by-cons}
-use Rattle.cy_event.specs.declared.steps.Reply.{Reply}
 use Rattle.cy_event.specs.declared.steps.Reply.TheVariants as reply
 use Rattle.cy_event.specs.declared.steps.Step.{Step}
 use Rattle.cy_event.specs.declared.steps.Step.TheVariants as step
 use Rattle.cy_latch.specs.Numbers.{count_out, is_out}
 use Rattle.cy_latch.proofs.Sets.{count_drawn, is_out-set_other, is_out-set_same}
 use Rattle.cy_model.specs.Connections.{History, admission, admits, connections, counted, find_own, moment, reply_by}
-use Rattle.cy_model.specs.Entries.{Entry, after, opening, trace_of}
+use Rattle.cy_model.specs.Entries.{Entry, after, opening}
 use Rattle.cy_model.specs.Outputs.{is_gone}
 use Rattle.cy_model.specs.Replies.{plain}
 use Rattle.cy_model.proofs.OwnEntries.{admissions_open_one, full_opens_none}

@@ -1,9 +1,8 @@
 -- The laws of the connector that speak of two connectors.
 use Rattle.std.proofs.Common.{◌≡◌, ℕ, List, [], ◌∷◌, Option, option_map, unwrap_or, refl, sym, ap, ◌∙◌, subst}
 use Rattle.std.specs.Option.{option_flatten}
-use Rattle.cy_event.specs.declared.steps.CloseCause.{CloseCause}
 use Rattle.cy_event.specs.declared.steps.Step.{Step}
-use Rattle.cy_model.specs.Connections.{Kind, connections, find_own, kind_of, moment, moment_after, own, own_entries, own_reply, reply_by}
+use Rattle.cy_model.specs.Connections.{Kind, connections, kind_of, moment, moment_after, own, own_entries, own_reply, reply_by}
 use Rattle.cy_model.specs.Entries.{Entry, ended_count, trace_of}
 use Rattle.cy_model.specs.Folds.{cause_of, charts}
 use Rattle.cy_model.specs.Marks.{Trace}
@@ -12,7 +11,7 @@ use Rattle.cy_model.specs.Replies.{Replied}
 use Rattle.cy_model.specs.Reports.{trace_text}
 use Rattle.cy_model.proofs.OwnEntries.{own_steps_add_own_entries}
 use Rattle.cy_world.specs.Answered.{start}
-use Rattle.cy_world.specs.Laws.{AreOwnOf, GoOnAlike, HasSameEntries, OwnStepsDecide, RecycledSlotsAnswerAsFresh, SlotsStandInNoReply, TakesAll, TellAlike, and_then, replies_alone, replies_to}
+use Rattle.cy_world.specs.Laws.{HasSameEntries, OwnStepsDecide, RecycledSlotsAnswerAsFresh, SlotsStandInNoReply, TellAlike, replies_alone, replies_to}
 use Rattle.cy_world.specs.Told.{request_count, told_of}
 use Rattle.cy_world.specs.Worlds.{IsOwnOf, StandsFor, TakesStep, WorldParts}
 use Rattle.cy_world.specs.declared.settings.Settings.{Settings}

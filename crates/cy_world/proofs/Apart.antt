@@ -1,22 +1,21 @@
 -- Connections have places of their own, and one is free where fewer are counted than may be.
-use Rattle.std.proofs.Common.{◌≡◌, ◌≢◌, ◌≤◌, ◌<◌, ◌↔◌, ℕ, zero, suc, ◌+◌, Bool, true, false, cond, List, [], ◌∷◌, ◌++◌, length, Option, Some, None, is_some, option_map, refl, sym, ap, ◌∙◌, subst, arith, ◌⊎◌, inl, inr, if◌then◌else◌}
+use Rattle.std.proofs.Common.{◌≡◌, ◌≤◌, ◌<◌, ℕ, zero, suc, Bool, true, false, cond, List, [], ◌∷◌, length, Option, Some, None, is_some, option_map, refl, sym, ap, ◌∙◌, subst, arith, ◌⊎◌, inl, inr, if◌then◌else◌}
 use Rattle.std.specs.Prelude.{slice_get}
 use Rattle.std.proofs.lemmas.Bool.{cases_lt, le-ltb, lt-ltb}
 use Rattle.std.proofs.lemmas.List.Sums.{sum_by-cons}
-use Rattle.cy_event.specs.declared.steps.Reply.{Reply}
 use Rattle.cy_event.specs.declared.steps.Reply.TheVariants as reply
 use Rattle.cy_event.specs.declared.steps.Step.{Step}
 use Rattle.cy_event.specs.declared.steps.Step.TheVariants as step
 use Rattle.cy_latch.specs.Numbers.{count_out, is_out}
 use Rattle.cy_latch.proofs.Sets.{out_is_below}
-use Rattle.cy_model.specs.Connections.{History, admits, connections, counted, find_own, moment}
-use Rattle.cy_model.specs.Entries.{Entry, opening, trace_of}
+use Rattle.cy_model.specs.Connections.{admits, connections, counted, find_own, moment}
+use Rattle.cy_model.specs.Entries.{Entry, opening}
 use Rattle.cy_model.specs.Replies.{Replied, plain}
 use Rattle.cy_model.proofs.OwnEntries.{admissions_open_one}
 use Rattle.cy_slot.specs.Reaching.{Who, who_is}
 use Rattle.cy_slot.specs.Slots.{SlotParts}
 use Rattle.cy_world.specs.Answered.{SeatParts}
-use Rattle.cy_world.specs.Laws.{AdmitsByCount, CountedNeverExceed, HasFreePlace, SitApart, TwoSitInTwoSlots, counted_in}
+use Rattle.cy_world.specs.Laws.{AdmitsByCount, CountedNeverExceed, HasFreePlace, TwoSitInTwoSlots, counted_in}
 use Rattle.cy_world.specs.Told.{IsHeldFor, SitsIn, slot_at}
 use Rattle.cy_world.specs.Worlds.{CanTake, StandsFor, StandsForOne, TakesStep, WorldParts, find_in}
 use Rattle.cy_world.specs.declared.settings.Settings.{Settings}

@@ -1,5 +1,5 @@
 -- A step that reaches nobody: of a number that isn't in the book, or of a connection that is gone.
-use Rattle.std.proofs.Common.{◌≡◌, ◌≢◌, ℕ, ◌+◌, Bool, true, false, cond, not, ◌&&◌, ◌==◌, List, [], ◌∷◌, length, Option, Some, None, is_some, option_map, refl, sym, ap, ◌∙◌, subst, arith, if◌then◌else◌}
+use Rattle.std.proofs.Common.{◌≡◌, ℕ, Bool, true, cond, not, ◌&&◌, ◌==◌, List, ◌∷◌, length, Option, Some, None, is_some, option_map, refl, sym, ap, ◌∙◌, subst, arith, if◌then◌else◌}
 use Rattle.std.proofs.lemmas.Bool.{and_parts, or_left}
 use Rattle.cy_event.specs.declared.limits.Limits.{Limits}
 use Rattle.cy_event.specs.declared.steps.Act.{Act}
@@ -8,14 +8,13 @@ use Rattle.cy_event.specs.declared.steps.Event.TheVariants as event
 use Rattle.cy_event.specs.declared.steps.Reply.TheVariants as reply
 use Rattle.cy_event.specs.declared.steps.Step.{Step}
 use Rattle.cy_event.specs.declared.steps.Step.TheVariants as step
-use Rattle.cy_latch.specs.Numbers.{count_out}
 use Rattle.cy_map.specs.declared.rule.Rule.{Rule}
 use Rattle.cy_model.specs.Connections.{History, Kind, add_own, connections, counted, find_own, kind_of, moment, moment_after, own, own_reply, reply_by, with_step}
 use Rattle.cy_model.specs.Entries.{Entry, after, after_callback, after_turn, callback_reply, event_marks, event_reply, is_closed_to, on_act, on_event, on_run, reply_to, trace_of, turn_reply}
 use Rattle.cy_model.specs.Folds.{cause_of, has_ended, is_broken, is_open}
 use Rattle.cy_model.specs.Marks.{Trace}
 use Rattle.cy_model.specs.Outputs.{is_gone, unsent}
-use Rattle.cy_model.specs.Replies.{Replied, plain}
+use Rattle.cy_model.specs.Replies.{plain}
 use Rattle.cy_model.specs.Settling.{settled, with_marks}
 use Rattle.cy_model.proofs.OwnEntries.{own_steps_add_own_entries}
 use Rattle.cy_world.specs.Answered.{start}
@@ -23,7 +22,7 @@ use Rattle.cy_world.specs.Worlds.{AreDistinct, IsGoneAs, StandsFor, StandsForOne
 use Rattle.cy_world.specs.declared.seat.Account.{Account}
 use Rattle.cy_world.specs.declared.settings.Settings.{Settings}
 use Rattle.cy_world.specs.declared.world.Admitted.{Admitted}
-use Rattle.cy_world.specs.declared.world.Admitted.TheVariants.{Seated, Gone}
+use Rattle.cy_world.specs.declared.world.Admitted.TheVariants.{Gone}
 use Rattle.cy_world.proofs.Admitting.{none_found}
 use Rattle.cy_world.proofs.Counting.{add_none, count_own, distinct_own, one}
 use Rattle.cy_world.proofs.Retiring.{of_each, stands_for_self}

@@ -1,13 +1,13 @@
 -- A connection that is gone leaves its place, and the connector stands for the same steps.
-use Rattle.std.proofs.Common.{◌≡◌, ◌≢◌, ℕ, zero, suc, ◌+◌, Bool, true, false, cond, not, List, [], ◌∷◌, length, set, MatchBool, Option, Some, None, is_some, refl, sym, ap, ◌∙◌, subst, arith, ◌⊎◌, inl, inr, if◌then◌else◌}
+use Rattle.std.proofs.Common.{◌≡◌, ◌≢◌, ℕ, zero, suc, Bool, true, false, cond, List, [], ◌∷◌, length, set, MatchBool, Option, Some, None, is_some, refl, sym, ap, ◌∙◌, subst, arith, ◌⊎◌, inl, inr, if◌then◌else◌}
 use Rattle.std.specs.Prelude.{slice_get}
 use Rattle.std.proofs.lemmas.Bool.{cases_eq}
 use Rattle.std.proofs.lemmas.List.{length-set}
 use Rattle.cy_event.specs.declared.limits.Limits.{Limits}
 use Rattle.cy_event.specs.declared.steps.Step.{Step}
-use Rattle.cy_latch.specs.Numbers.{after_leave, count_out, is_out}
+use Rattle.cy_latch.specs.Numbers.{count_out, is_out}
 use Rattle.cy_latch.proofs.Sets.{count_left, is_out-set_other, is_out-set_same, out_is_below}
-use Rattle.cy_model.specs.Connections.{counted, find_own}
+use Rattle.cy_model.specs.Connections.{find_own}
 use Rattle.cy_model.specs.Entries.{Entry, trace_of}
 use Rattle.cy_model.specs.Marks.{Trace}
 use Rattle.cy_model.specs.Outputs.{is_gone}

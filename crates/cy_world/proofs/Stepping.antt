@@ -1,15 +1,14 @@
 -- A step of one connection: what is answered, and for which steps the connector stands then.
-use Rattle.std.proofs.Common.{◌≡◌, ◌≢◌, ℕ, ◌+◌, Bool, true, false, cond, not, List, [], ◌∷◌, length, set, Option, Some, None, is_some, option_map, refl, sym, ap, ◌∙◌, subst, arith, ◌⊎◌, inl, inr, if◌then◌else◌}
+use Rattle.std.proofs.Common.{◌≡◌, ◌≢◌, ℕ, ◌+◌, Bool, true, false, cond, not, List, [], ◌∷◌, set, Option, Some, None, is_some, option_map, refl, sym, ap, ◌∙◌, subst, arith, ◌⊎◌, inl, inr}
 use Rattle.std.specs.Prelude.{slice_get}
 use Rattle.std.proofs.lemmas.Bool.{cases_eq}
 use Rattle.std.proofs.lemmas.List.{length-set}
-use Rattle.cy_event.specs.declared.limits.Limits.{Limits}
 use Rattle.cy_event.specs.declared.steps.Reply.{Reply}
 use Rattle.cy_event.specs.declared.steps.Step.{Step}
 use Rattle.cy_event.specs.declared.steps.Step.TheVariants as step
 use Rattle.cy_latch.specs.Numbers.{count_out, is_out}
-use Rattle.cy_model.specs.Connections.{History, Kind, add_own, connections, counted, find_own, kind_of, moment, moment_after, own, own_entries, own_reply, reply_by, with_step}
-use Rattle.cy_model.specs.Entries.{Entry, after, on_act, on_event, on_run, reply_to, trace_of}
+use Rattle.cy_model.specs.Connections.{History, Kind, add_own, connections, counted, find_own, kind_of, moment, moment_after, own, own_reply, reply_by, with_step}
+use Rattle.cy_model.specs.Entries.{Entry, after, on_act, on_event, on_run, trace_of}
 use Rattle.cy_model.specs.Marks.{Trace, opened}
 use Rattle.cy_model.specs.Outputs.{is_gone}
 use Rattle.cy_model.specs.Replies.{plain}
@@ -22,8 +21,8 @@ use Rattle.cy_world.specs.Places.{LiveParts, Lives, PlaceParts}
 use Rattle.cy_world.specs.declared.settings.Settings.{Settings}
 use Rattle.cy_world.specs.declared.world.Admitted.{Admitted}
 use Rattle.cy_world.specs.declared.world.Admitted.TheVariants.{Seated, Gone}
-use Rattle.cy_world.proofs.Counting.{count_own, distinct_own, gone_by, one}
-use Rattle.cy_world.proofs.Elements.{get-set_other, get-set_same, put_down_other, put_down_same}
+use Rattle.cy_world.proofs.Counting.{count_own, distinct_own, one}
+use Rattle.cy_world.proofs.Elements.{get-set_other, get-set_same}
 
 -- ---- a connection that has a place
 

@@ -1,5 +1,5 @@
 -- What is told of a connection that has a place is what its trace says.
-use Rattle.std.proofs.Common.{◌≡◌, ◌<◌, ℕ, List, ◌∷◌, Option, Some, option_map, refl, sym, ap, ◌∙◌, subst}
+use Rattle.std.proofs.Common.{◌≡◌, ℕ, List, Some, option_map, sym, ap, ◌∙◌, subst}
 use Rattle.std.specs.Prelude.{slice_index_or}
 use Rattle.cy_event.specs.declared.steps.Step.{Step}
 use Rattle.cy_model.specs.Connections.{find_own}

@@ -1,5 +1,5 @@
 -- Laws of a connector. Each is the contract of a public function without a body.
-use Rattle.std.specs.Prelude.{◌≡◌, ◌≢◌, ◌≤◌, ◌<◌, ◌↔◌, ℕ, Bool, true, false, not, ◌&&◌, ◌==◌, List, [], ◌∷◌, ◌++◌, slice_get, Option, Some, None, is_some, option_map, unwrap_or, if◌then◌else◌}
+use Rattle.std.specs.Prelude.{◌≡◌, ◌≢◌, ◌≤◌, ◌<◌, ◌↔◌, ℕ, Bool, true, false, not, ◌&&◌, ◌==◌, List, [], ◌∷◌, ◌++◌, slice_get, Some, is_some, unwrap_or, if◌then◌else◌}
 use Rattle.std.specs.Option.{option_flatten}
 use Rattle.cy_event.specs.declared.limits.Limits.{Limits}
 use Rattle.cy_event.specs.declared.steps.Reply.TheVariants as reply
@@ -8,7 +8,7 @@ use Rattle.cy_event.specs.declared.steps.Step.TheVariants as step
 use Rattle.cy_latch.specs.Numbers.{is_out}
 use Rattle.cy_map.specs.declared.rule.Rule.{Rule}
 use Rattle.cy_model.specs.Connections.{Kind, admission, clock, connections, counted, kind_of, own, own_entries, replies}
-use Rattle.cy_model.specs.Entries.{Entry, opening, tick, ended_count, on_act, on_event, on_run, reply_to, trace_of}
+use Rattle.cy_model.specs.Entries.{Entry, tick, ended_count, reply_to, trace_of}
 use Rattle.cy_model.specs.Folds.{cause_of, charts}
 use Rattle.cy_model.specs.Outputs.{output, took}
 use Rattle.cy_model.specs.Replies.{Replied, plain}

@@ -1,6 +1,5 @@
 -- What a connector tells of its connections, which is what the definitions tell of their traces.
-use Rattle.std.specs.Prelude.{◌≡◌, ℕ, Bool, true, false, List, map, length, slice_get, Option, Some, None, is_some, option_map}
-use Rattle.cy_event.specs.declared.steps.CloseCause.{CloseCause}
+use Rattle.std.specs.Prelude.{◌≡◌, ℕ, Bool, true, false, List, length, slice_get, Option, Some, option_map}
 use Rattle.cy_event.specs.declared.steps.Step.{Step}
 use Rattle.cy_event.specs.declared.steps.Step.TheVariants as step
 use Rattle.cy_model.specs.Connections.{own_entries}

@@ -1,5 +1,5 @@
 -- What is left to show of `seats`.
-use Rattle.std.proofs.Common.{◌≡◌, ℕ, List, [], ◌∷◌, All, vec_capacity, arith, sym, subst}
+use Rattle.std.proofs.Common.{All, arith, sym, subst}
 use Rattle.std.proofs.lemmas.List.Elements.{All-push}
 use Rattle.cy_world.specs.Answered.{IsVacant}
 use Rattle.cy_world.proofs.world.seats.Goals as goal

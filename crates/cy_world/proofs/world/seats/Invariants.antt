@@ -1,5 +1,5 @@
 -- What the loop of `seats` keeps.
-use Rattle.std.proofs.Common.{◌≡◌, ◌-◌, ◌≤◌, All, vec_len, vec_capacity}
+use Rattle.std.proofs.Common.{◌-◌, ◌≤◌, All, vec_len, vec_capacity}
 use Rattle.cy_world.specs.Answered.{IsVacant}
 use Rattle.cy_world.proofs.world.seats.Given as goal
 

@@ -1,11 +1,10 @@
 -- What is left to show of `World::admit`.
-use Rattle.std.proofs.Common.{◌≡◌, ◌∷◌, ℕ, Option, Some, refl, sym, ap, ◌∙◌, subst}
+use Rattle.std.proofs.Common.{◌∷◌, ℕ, Some, sym, ap, ◌∙◌, subst}
 use Rattle.cy_event.specs.declared.steps.Step.TheVariants as step
 use Rattle.cy_latch.specs.Numbers.{after_leave}
 use Rattle.cy_latch.specs.Runs.{IsTurn, entered}
-use Rattle.cy_slot.specs.Reaching.{Who}
 use Rattle.cy_world.specs.Worlds.{WorldParts, find_in}
-use Rattle.cy_world.proofs.Owned.{admit_stands, is_free, left_again, on_err, same_again, vacant_still}
+use Rattle.cy_world.proofs.Owned.{admit_stands, is_free, left_again, same_again, vacant_still}
 use Rattle.cy_world.proofs.world.World.admit.Goals as goal
 
 pub book_seat-requires : goal.book_seat-requires

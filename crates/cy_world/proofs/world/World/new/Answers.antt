@@ -1,5 +1,5 @@
 -- What is left to show of `World::new`.
-use Rattle.std.proofs.Common.{◌≡◌, [], sym, subst, ap, ◌∙◌}
+use Rattle.std.proofs.Common.{[], sym, subst}
 use Rattle.cy_world.specs.Faults.{IsFaultOf}
 use Rattle.cy_world.proofs.Beginning.{begins_as, fault_is}
 use Rattle.cy_world.proofs.world.World.new.Goals as goal

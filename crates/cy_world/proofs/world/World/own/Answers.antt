@@ -1,5 +1,5 @@
 -- What is left to show of `World::own`.
-use Rattle.std.proofs.Common.{◌≡◌, ◌<◌, ◌∷◌, ℕ, Option, Some, None, is_some, sym, ap, ◌∙◌, subst}
+use Rattle.std.proofs.Common.{◌≡◌, ◌<◌, ◌∷◌, ℕ, Some, None, is_some, sym, ap, ◌∙◌, subst}
 use Rattle.std.specs.Prelude.{option_copied}
 use Rattle.cy_world.specs.Worlds.{find_in}
 use Rattle.cy_world.specs.declared.world.Admitted.TheVariants.{Gone, Seated}

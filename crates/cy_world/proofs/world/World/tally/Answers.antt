@@ -1,5 +1,5 @@
 -- What is left to show of `World::tally`.
-use Rattle.std.proofs.Common.{◌≡◌, Option, Some, sym, ap, ◌∙◌}
+use Rattle.std.proofs.Common.{◌≡◌, Some, sym, ap, ◌∙◌}
 use Rattle.std.specs.Prelude.{option_copied}
 use Rattle.cy_world.specs.Worlds.{find_in}
 use Rattle.cy_world.specs.declared.world.Admitted.TheVariants.{Seated}
