@@ -58,13 +58,13 @@ one_guest p c d i j mine other same =
     let one : Some (Some (record { share = i; number = c })) ≡ Some (Some (record { share = j; number = d })) =
     sym mine ∙ ap (λ (n : ℕ). option_map (λ (slot : SlotParts). who_is slot.tenant) (slot_at n p)) same ∙ other in
     ap (λ (who : Who). who.number) (some (record { share = i; number = c }) (record { share = j; number = d })
-        (some (Some (record { share = i; number = c })) (Some (record { share = j; number = d })) one))
+    (some (Some (record { share = i; number = c })) (Some (record { share = j; number = d })) one))
 
 two_places : (w : List Step) (p : WorldParts) → StandsFor w p → HavePlacesApart p
 two_places w p stands c d i j one other away same =
     away (ap (λ (who : Who). who.number) (one_number p j (record { share = i; number = c }) (record { share = j; number = d })
-        (subst (λ (n : ℕ). IsHeldFor (record { share = i; number = c }) n p) same (held_for w p c i stands one))
-        (held_for w p d j stands other)))
+    (subst (λ (n : ℕ). IsHeldFor (record { share = i; number = c }) n p) same (held_for w p c i stands one))
+    (held_for w p d j stands other)))
 
 -- for whom a place is held, the book has that place
 guest_booked : (w : List Step) (p : WorldParts) (who : Who) (i : ℕ) → StandsFor w p → IsHeldFor who i p → find_in who.number p.book ≡ Some (Seated i)

@@ -89,7 +89,7 @@ refused false rs r = append-nil rs
 
 opened : (limits : Limits) (rules : List Rule) (t : ℕ) (v : Bool) (o : Option (List (ℕ × Entry)))
     → alone_of limits rules o
-        ++ (if not (is_some o) && is_some (found_first o (if v then Some ((t, opening) ∷ []) else None)) then plain reply.Entered ∷ [] else [])
+    ++ (if not (is_some o) && is_some (found_first o (if v then Some ((t, opening) ∷ []) else None)) then plain reply.Entered ∷ [] else [])
     ≡ alone_of limits rules (found_first o (if v then Some ((t, opening) ∷ []) else None))
 unfolding reply_to
 opened limits rules t true None = refl
@@ -98,21 +98,21 @@ opened limits rules t v (Some es) = append-nil (replies_alone limits rules es)
 
 admitted : (limits : Limits) (rules : List Rule) (w : List Step) (c d : ℕ)
     → alone_of limits rules (own_entries limits rules w c)
-        ++ (if not (is_in limits rules c w) && is_in limits rules c (step.Admit d ∷ w)
-            then plain (if admits limits rules (connections limits rules w) then reply.Entered else reply.Full (counted limits rules (connections limits rules w))) ∷ []
-            else [])
+    ++ (if not (is_in limits rules c w) && is_in limits rules c (step.Admit d ∷ w)
+    then plain (if admits limits rules (connections limits rules w) then reply.Entered else reply.Full (counted limits rules (connections limits rules w))) ∷ []
+    else [])
     ≡ alone_of limits rules (own_entries limits rules (step.Admit d ∷ w) c)
 admitted limits rules w c d =
     let hs = connections limits rules w in
     let entry : History = record { number = d; entries = (moment w, opening) ∷ [] } in
     elim (admits limits rules hs) as (λ a. alone_of limits rules (find_own c hs)
-        ++ (if not (is_some (find_own c hs)) && is_some (find_own c (if a then hs ++ entry ∷ [] else hs))
-            then plain (if a then reply.Entered else reply.Full (counted limits rules hs)) ∷ []
-            else [])
+    ++ (if not (is_some (find_own c hs)) && is_some (find_own c (if a then hs ++ entry ∷ [] else hs))
+    then plain (if a then reply.Entered else reply.Full (counted limits rules hs)) ∷ []
+    else [])
     ≡ alone_of limits rules (find_own c (if a then hs ++ entry ∷ [] else hs))) [
       | true ↦
           subst (λ (o : Option (List (ℕ × Entry))). alone_of limits rules (find_own c hs)
-              ++ (if not (is_some (find_own c hs)) && is_some o then plain reply.Entered ∷ [] else []) ≡ alone_of limits rules o)
+          ++ (if not (is_some (find_own c hs)) && is_some o then plain reply.Entered ∷ [] else []) ≡ alone_of limits rules o)
           (sym (found_last c entry hs))
           (opened limits rules (moment w) (d == c) (find_own c hs))
       | false ↦ refused (is_some (find_own c hs)) (alone_of limits rules (find_own c hs)) (plain (reply.Full (counted limits rules hs)))
@@ -126,8 +126,8 @@ picked limits rules c [] = []
 picked limits rules c (s ∷ w) =
     picked limits rules c w
     ++ (if is_step_of c (kind_of s) (is_in limits rules c w) (is_in limits rules c (s ∷ w))
-        then reply_by limits rules (kind_of s) (moment (s ∷ w)) (connections limits rules w) ∷ []
-        else [])
+    then reply_by limits rules (kind_of s) (moment (s ∷ w)) (connections limits rules w) ∷ []
+    else [])
 
 -- one more of each
 marked_last : (vs : List Bool) (rs : List Replied) (v : Bool) (r : Replied) → length vs ≡ length rs
@@ -166,8 +166,8 @@ each_is_own limits rules (step.At t ∷ w) c =
     ∙ ap (alone_of limits rules) (sym (clock_ticks_for_each limits rules w t c))
 each_is_own limits rules (step.Admit d ∷ w) c =
     ap (λ (rs : List Replied). rs ++ (if not (is_in limits rules c w) && is_in limits rules c (step.Admit d ∷ w)
-        then plain (if admits limits rules (connections limits rules w) then reply.Entered else reply.Full (counted limits rules (connections limits rules w))) ∷ []
-        else [])) (each_is_own limits rules w c)
+    then plain (if admits limits rules (connections limits rules w) then reply.Entered else reply.Full (counted limits rules (connections limits rules w))) ∷ []
+    else [])) (each_is_own limits rules w c)
     ∙ admitted limits rules w c d
 each_is_own limits rules (step.On d e b ∷ w) c =
     ap (λ (rs : List Replied). rs ++ (if is_in limits rules c w && (d == c) then own_reply limits rules (moment w) (own_entries limits rules w d) (on_event e b) ∷ [] else [])) (each_is_own limits rules w c)
