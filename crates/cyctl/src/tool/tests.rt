@@ -165,7 +165,7 @@ fn replayed(alloc: Global, script: &[u8]) -> Result<(u8, Vec<u8>), Fail> {
 }
 
 /// Whole scripts and their reports.
-const ROWS: [(&[u8], &[u8]); 9] = [
+const ROWS: [(&[u8], &[u8]); 12] = [
     // Nothing happens.
     (b"coyote-script 1", b""),
     // Nobody is admitted.
@@ -177,6 +177,21 @@ const ROWS: [(&[u8], &[u8]); 9] = [
     (
         b"coyote-script 1\n\n# late\nend 1\nadmit 1\nend 1\n",
         b"1 NoConn\n2 Entered\n3 Done\nconn 1 InputEnd took 0 of 0\nout \"\"\n",
+    ),
+    // Two connections, admitted, stepped and ended in other orders than their numbers.
+    (
+        b"coyote-script 1\nrule / 0 async\nadmit 2\nadmit 1\nin 1 \"GET / HTTP/1.1\\r\\nHost: a\\r\\n\\r\\n\"\nin 2 \"GET / HTTP/1.1\\r\\nHost: a\\r\\n\\r\\n\"\nrun 2\nrun 1\nact 1 write \"one\"\nact 2 write \"two\"\nreturn 2\nreturn 1\n",
+        b"1 Entered\n2 Entered\n3 Taken 27\n4 Taken 27\n5 Begun service 0\n6 Begun service 0\n7 Taken 3\n8 Taken 3\n9 Done\n10 Done\nconn 1 open took 0 of 76\nout \"HTTP/1.1 200 \\r\\nContent-Length: 3\\r\\nDate: Thu, 01 Jan 1970 00:00:00 GMT\\r\\n\\r\\none\"\nchart 1 1 Run Return\nconn 2 open took 0 of 76\nout \"HTTP/1.1 200 \\r\\nContent-Length: 3\\r\\nDate: Thu, 01 Jan 1970 00:00:00 GMT\\r\\n\\r\\ntwo\"\nchart 2 1 Run Return\n",
+    ),
+    // As many as may be counted are; one that is gone makes room for another, and isn't stepped again.
+    (
+        b"coyote-script 1\nset maxConnections 1\nadmit 2\nadmit 1\nend 1\nend 2\nadmit 3\nend 2\n",
+        b"1 Entered\n2 Full 1\n3 NoConn\n4 Done\n5 Entered\n6 Closed\nconn 2 InputEnd took 0 of 0\nout \"\"\nconn 3 open took 0 of 0\nout \"\"\n",
+    ),
+    // The least and the greatest number.
+    (
+        b"coyote-script 1\nadmit 18446744073709551615\nadmit 1\nrun 18446744073709551615\nend 2\n",
+        b"1 Entered\n2 Entered\n3 Idle\n4 NoConn\nconn 1 open took 0 of 0\nout \"\"\nconn 18446744073709551615 open took 0 of 0\nout \"\"\n",
     ),
     // A head in two pieces.
     (
@@ -364,8 +379,8 @@ fn bad_targets(rt: HostRuntime) -> Result<(), Fail> {
 }
 
 /// Texts outside the form: another first line, a line that says nothing of the form, a rule or a setting behind a
-/// step, a pattern that is none or stands twice, a value out of its range, another connection, a second admission, and
-/// an escape that is none.
+/// step, a pattern that is none or stands twice, a value out of its range, a connection 0, a second admission, and an
+/// escape that is none.
 #[test]
 fn other_texts(rt: HostRuntime) -> Result<(), Fail> {
     for text in [
@@ -378,8 +393,8 @@ fn other_texts(rt: HostRuntime) -> Result<(), Fail> {
         "coyote-script 1\nrule / 0 async\nrule / 1 async\n",
         "coyote-script 1\nset maxHttpHeaderSize 255\n",
         "coyote-script 1\nset maxHttpHeaderSize 8193\n",
-        "coyote-script 1\nadmit 2\n",
-        "coyote-script 1\nadmit 1\nadmit 1\n",
+        "coyote-script 1\nadmit 0\n",
+        "coyote-script 1\nadmit 1\nadmit 2\nadmit 1\n",
         "coyote-script 1\nin 1 \"a\\q\"\n",
     ] {
         let (status, written) = replayed(rt.alloc(), text.as_bytes())?;
