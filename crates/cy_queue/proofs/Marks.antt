@@ -5,7 +5,7 @@ use Rattle.std.proofs.lemmas.Bool.{cases_eq, cases_lt, eqb-false, ne_eqb, or_par
 use Rattle.std.proofs.lemmas.Bool.Decides.{nat_tests}
 use Rattle.std.proofs.lemmas.List.{length-set, length_push, get_or-set_same, get_or-set_other, get_or_past}
 use Rattle.std.proofs.lemmas.List.Sums.{sum_by-set, count_by-le-length}
-use Rattle.cy_queue.specs.Lines.{holds}
+use Rattle.cy_queue.specs.Queues.{holds}
 use Rattle.cy_queue.specs.Marks.{AreMarked, IsDistinct}
 
 -- ---- a place at the end

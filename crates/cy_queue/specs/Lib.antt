@@ -1,3 +1,3 @@
-pub mod Lines
+pub mod Queues
 pub mod Marks
 pub mod Laws

@@ -1,6 +1,6 @@
 -- The marks that a queue keeps beside its places, so that a place is found without a search. Own.
 use Rattle.std.specs.Prelude.{◌≡◌, ℕ, ◌≤◌, ◌<◌, ◌^◌, Bool, false, List, [], ◌∷◌, length, count_by, slice_index_or}
-use Rattle.cy_queue.specs.Lines.{holds}
+use Rattle.cy_queue.specs.Queues.{holds}
 
 -- none of these places stands twice
 abbrev pub IsDistinct : List ℕ → Type 0

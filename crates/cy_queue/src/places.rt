@@ -31,10 +31,10 @@ pub struct Places {
 impl Model for Places {
     ghost use Rattle.std.specs.Prelude.{length};
     ghost use Rattle.std.specs.VecDeque.{deque_capacity};
-    ghost use Rattle.cy_queue.specs.Lines.{Line};
+    ghost use Rattle.cy_queue.specs.Queues.{Queue};
     ghost use Rattle.cy_queue.specs.Marks.{AreMarked};
 
-    ghost Value = { Line };
+    ghost Value = { Queue };
 
     ghost view = { λ p. record { places = length p.is_waiting.items; waiting = p.waiting.items; closed = p.closed } };
 
@@ -42,7 +42,7 @@ impl Model for Places {
 }
 
 impl Places {
-    ghost use Rattle.cy_queue.specs.Lines.{empty, put_answer, after_put, after_pop, after_close};
+    ghost use Rattle.cy_queue.specs.Queues.{empty, put_answer, after_put, after_pop, after_close};
 
     /// An open queue for so many places, of which the first is 0, with none in it. This alone takes memory.
     pub fn new(alloc: Global, places: u32) -> Result<Places, NoMemory>

@@ -4,7 +4,7 @@ use Rattle.std.proofs.lemmas.List.{length-map}
 use Rattle.std.specs.List.{All}
 use Rattle.cy_event.specs.Answers.{field_line}
 use Rattle.cy_respond.specs.Fields.{field_size}
-use Rattle.cy_respond.specs.Lines.{IsPlaceWithin, KeepsFields, field_at, fields_of}
+use Rattle.cy_respond.specs.FieldLines.{IsPlaceWithin, KeepsFields, field_at, fields_of}
 use Rattle.cy_respond.specs.declared.head.RespHead.TheInside.{Inside}
 use Rattle.cy_respond.specs.declared.head.FieldPlace.{FieldPlace}
 use Rattle.cy_respond.proofs.LineLemmas.{fields_more, length_of_lines}

@@ -9,7 +9,7 @@ use Rattle.std.proofs.lemmas.List.Elements.{All-head, All-tail, All-append, All-
 use Rattle.cy_event.specs.Answers.{crlf, field_line}
 use Rattle.cy_event.specs.Heads.{Field}
 use Rattle.cy_respond.specs.Fields.{field_size, may_stand, size_of}
-use Rattle.cy_respond.specs.Lines.{field_at, IsPlaceWithin}
+use Rattle.cy_respond.specs.FieldLines.{field_at, IsPlaceWithin}
 use Rattle.cy_respond.specs.declared.head.FieldPlace.{FieldPlace}
 
 length_of_line : (f : Field) → length (field_line f) ≡ size_of f + 4

@@ -1,5 +1,5 @@
 pub mod HeadParts
 pub mod Shapes
 pub mod Fields
-pub mod Lines
+pub mod FieldLines
 pub mod Laws

@@ -69,7 +69,7 @@ impl Model for RespHead {
 
     ghost Value = { Answer };
 
-    ghost use Rattle.cy_respond.specs.Lines.{answer_of, KeepsFields};
+    ghost use Rattle.cy_respond.specs.FieldLines.{answer_of, KeepsFields};
 
     ghost view = { answer_of };
 

@@ -7,7 +7,7 @@ use Rattle.std.proofs.lemmas.Bool.Decides.{nat_tests}
 use Rattle.cy_bytes.specs.Numbers.{decimal_of}
 use Rattle.cy_bytes.specs.Quoting.{unquoted}
 use Rattle.cy_bytes.proofs.Texts.{spelling_is_read, read_is_spelling}
-use Rattle.cy_script.specs.Lines.{lacks, IsNumber, IsQuoted}
+use Rattle.cy_script.specs.TextLines.{lacks, IsNumber, IsQuoted}
 use Rattle.cy_script.specs.Reading.{alone, behind_space, behind_word, between, number_field, quoted_field, word_field, word_of}
 use Rattle.cy_script.proofs.Quoted.{between_is, between_again}
 use Rattle.cy_script.proofs.Words.{first_word_lacks, number_lacks, some_then, word_alone, word_and_rest, word_then}

@@ -17,7 +17,7 @@ use Rattle.cy_script.specs.declared.statements.Statement.{Statement}
 use Rattle.cy_script.specs.declared.statements.Statement.TheVariants as statement
 use Rattle.cy_script.specs.Conditions.{AreSteps}
 use Rattle.cy_script.specs.Kept.{has_its_bytes, AreLimits, IsKeepAlive, IsScript}
-use Rattle.cy_script.specs.Lines.{IsStepLine, IsWritten}
+use Rattle.cy_script.specs.TextLines.{IsStepLine, IsWritten}
 use Rattle.cy_script.specs.Settings.{with_setting, IsInRange}
 use Rattle.cy_settings.specs.Rules.{has_part, AreRules}
 use Rattle.cy_script.specs.Spelling.{limits_after, rule_of, step_of, IsScriptText}

@@ -5,7 +5,7 @@ use Rattle.std.proofs.lemmas.Bool.{ltb-true, ltb-false}
 use Rattle.std.proofs.lemmas.Bool.Decides.{nat_tests}
 use Rattle.std.proofs.lemmas.Option.{cond_some}
 use Rattle.std.specs.List.{list_all}
-use Rattle.cy_script.specs.Lines.{ended, lacks, HasLines}
+use Rattle.cy_script.specs.TextLines.{ended, lacks, HasLines}
 use Rattle.cy_script.proofs.Words.{and_parts, not_true}
 use Rattle.cy_script.specs.Reading.{in_first, before, lines_of}
 

@@ -13,7 +13,7 @@ use Rattle.cy_settings.specs.declared.limit.Limit.{Limit}
 use Rattle.cy_script.specs.declared.statements.Statement.{Statement}
 use Rattle.cy_script.specs.declared.statements.Statement.TheVariants as statement
 use Rattle.cy_script.specs.Conditions.{is_next_step, AreSteps}
-use Rattle.cy_script.specs.Lines.{IsWritten}
+use Rattle.cy_script.specs.TextLines.{IsWritten}
 use Rattle.cy_script.specs.Reading.{after_lines, after_statement, before_steps, statement_of}
 use Rattle.cy_script.specs.Settings.{with_setting}
 use Rattle.cy_script.specs.Spelling.{is_for_the_front, limits_after, rule_of, step_of, IsInOrder}

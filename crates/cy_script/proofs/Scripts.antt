@@ -6,7 +6,7 @@ use Rattle.cy_script.specs.declared.script.Script.{Script}
 use Rattle.cy_script.specs.declared.statements.Statement.{Statement}
 use Rattle.cy_script.specs.Conditions.{AreSteps}
 use Rattle.cy_settings.specs.Rules.{AreRules}
-use Rattle.cy_script.specs.Lines.{HasLines}
+use Rattle.cy_script.specs.TextLines.{HasLines}
 use Rattle.cy_script.specs.Reading.{after_lines, after_statement, lines_of, nothing_said, script_of, script_of_lines, statement_of, with_parts}
 use Rattle.cy_script.specs.Spelling.{first_line, IsScriptText}
 use Rattle.cy_script.proofs.FieldsRead.{map_some}

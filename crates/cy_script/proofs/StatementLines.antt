@@ -12,7 +12,7 @@ use Rattle.cy_settings.specs.declared.limit.Limit.TheVariants.{MaxConnections, M
 use Rattle.cy_script.specs.declared.statements.Statement.{Statement}
 use Rattle.cy_script.specs.declared.statements.Statement.TheVariants as statement
 use Rattle.cy_script.specs.Drafts.{IsBounded}
-use Rattle.cy_script.specs.Lines.{lacks, mode_of, IsNumber, IsWritten}
+use Rattle.cy_script.specs.TextLines.{lacks, mode_of, IsNumber, IsWritten}
 use Rattle.cy_script.specs.Reading.{alone, behind_word, is_async, number_field, rule_line, rule_of_part, set_line, set_of, set_to, statement_of, statement_of_word, step_line, word_field, word_of}
 use Rattle.cy_script.specs.Settings.{IsInRange}
 use Rattle.cy_settings.specs.Limits.{limit_greatest, limit_least, limit_name, limit_named, limits}

@@ -10,7 +10,7 @@ use Rattle.cy_event.specs.declared.steps.Event.TheVariants as event
 use Rattle.cy_event.specs.declared.steps.Step.{Step}
 use Rattle.cy_event.specs.declared.steps.Step.TheVariants as step
 use Rattle.cy_script.specs.declared.statements.Statement.TheVariants as statement
-use Rattle.cy_script.specs.Lines.{HasNumber, IsNumber, IsQuoted, IsStepLine}
+use Rattle.cy_script.specs.TextLines.{HasNumber, IsNumber, IsQuoted, IsStepLine}
 use Rattle.cy_script.specs.Reading.{act_of, alone, came_of, number_field, quoted_field, statement_of, step_line, step_of_word, taken_of, word_field, write_of}
 use Rattle.cy_script.proofs.FieldsRead.{alone_is, bind_some, cond_cases, map_some, number_field_is, number_field_last, number_field_then, quoted_field_is, quoted_field_again, word_field_is}
 use Rattle.cy_script.proofs.Words.{some_then}

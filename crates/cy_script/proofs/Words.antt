@@ -7,7 +7,7 @@ use Rattle.std.proofs.lemmas.Bool.Decides.{nat_tests}
 use Rattle.std.proofs.lemmas.Option.{cond_some}
 use Rattle.cy_bytes.specs.Numbers.{decimal_of, has_leading_zero}
 use Rattle.cy_bytes.specs.Tokens.{is_empty}
-use Rattle.cy_script.specs.Lines.{lacks}
+use Rattle.cy_script.specs.TextLines.{lacks}
 use Rattle.cy_script.specs.Reading.{behind_word, word_of}
 
 -- ---- where the first space stands

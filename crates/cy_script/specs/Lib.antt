@@ -1,5 +1,5 @@
 pub mod Settings
-pub mod Lines
+pub mod TextLines
 pub mod Conditions
 pub mod Spelling
 pub mod Kept

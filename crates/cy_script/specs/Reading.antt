@@ -15,7 +15,7 @@ use Rattle.cy_settings.specs.declared.limit.Limit.{Limit}
 use Rattle.cy_script.specs.declared.statements.Statement.{Statement}
 use Rattle.cy_script.specs.declared.statements.Statement.TheVariants as statement
 use Rattle.cy_script.specs.Conditions.{is_next_step}
-use Rattle.cy_script.specs.Lines.{line_feed, space}
+use Rattle.cy_script.specs.TextLines.{line_feed, space}
 use Rattle.cy_script.specs.Settings.{with_setting}
 use Rattle.cy_script.specs.Spelling.{first_line}
 use Rattle.cy_settings.specs.Limits.{limit_greatest, limit_least, limit_named}

@@ -9,7 +9,7 @@ use Rattle.cy_script.specs.declared.script.Script.{Script}
 use Rattle.cy_script.specs.declared.statements.Statement.{Statement}
 use Rattle.cy_script.specs.declared.statements.Statement.TheVariants as statement
 use Rattle.cy_script.specs.Conditions.{AreSteps}
-use Rattle.cy_script.specs.Lines.{HasLines, IsWritten}
+use Rattle.cy_script.specs.TextLines.{HasLines, IsWritten}
 use Rattle.cy_script.specs.Settings.{with_setting}
 use Rattle.cy_settings.specs.Rules.{parts_of, AreRules}
 

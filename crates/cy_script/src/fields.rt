@@ -2,7 +2,7 @@
 
 ghost use Rattle.std.specs.Prelude.{◌≡◌, ◌==◌, option_map, position};
 ghost use Rattle.cy_script.specs.Answers.{Reads};
-ghost use Rattle.cy_script.specs.Lines.{space};
+ghost use Rattle.cy_script.specs.TextLines.{space};
 ghost use Rattle.cy_script.specs.Reading.{alone, behind_space, behind_word, between, number_field, quoted_field, word_field, word_of};
 
 use crate::fault::ScriptFault;

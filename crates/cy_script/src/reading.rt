@@ -4,7 +4,7 @@ ghost use Rattle.std.specs.Prelude.{◌≡◌, ◌==◌, [], ◌∷◌, IfOk, Ma
 ghost use Rattle.cy_script.specs.declared.script.Script.{Script as ScriptValue};
 ghost use Rattle.cy_script.specs.Answers.{Reads};
 ghost use Rattle.cy_script.specs.Kept.{IsScript};
-ghost use Rattle.cy_script.specs.Lines.{line_feed};
+ghost use Rattle.cy_script.specs.TextLines.{line_feed};
 ghost use Rattle.cy_script.specs.Reading.{after_lines, lines_of, nothing_said, script_of, with_parts};
 ghost use Rattle.cy_script.specs.Spelling.{IsScriptText};
 

@@ -2,7 +2,7 @@
 use Rattle.std.proofs.Common.{arith, ap, ◌≤◌, ◌∙◌, length}
 use Rattle.std.specs.Prelude.{decimal}
 use Rattle.std.proofs.lemmas.Fmt.{length-decimal-le}
-use Rattle.cy_respond.specs.Lines.{answer_of}
+use Rattle.cy_respond.specs.FieldLines.{answer_of}
 use Rattle.cy_respond.specs.Shapes.{told_shape}
 use Rattle.cy_respond.proofs.HeadSizes.{head_size}
 use Rattle.cy_respond.proofs.head.RespHead.head_len.Goals as goal

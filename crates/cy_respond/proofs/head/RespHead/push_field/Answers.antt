@@ -4,7 +4,7 @@ use Rattle.std.specs.List.{All, list_all}
 use Rattle.cy_event.specs.Answers.{Answer, field_line}
 use Rattle.cy_event.specs.Heads.{Field}
 use Rattle.cy_respond.specs.Fields.{field_size, may_stand}
-use Rattle.cy_respond.specs.Lines.{field_at, fields_of, IsPlaceWithin}
+use Rattle.cy_respond.specs.FieldLines.{field_at, fields_of, IsPlaceWithin}
 use Rattle.cy_respond.proofs.Kept.{grown, kept_count, kept_size}
 use Rattle.cy_respond.proofs.LineLemmas.{lines_more, places_more, stand_more}
 use Rattle.cy_respond.proofs.head.RespHead.push_field.Goals as goal
