@@ -7,7 +7,7 @@ use Rattle.cy_out.specs.Told.{told_asked, told_mode}
 use Rattle.cy_out.specs.declared.body_out.Commit.{Commit}
 use Rattle.cy_out.specs.declared.body_out.BodyOut.TheInside.{Inside}
 use Rattle.cy_out.specs.declared.body_out.TheConstants.{PIECE_SIZE, PIECE_ROOM, LAST_ROOM}
-use Rattle.cy_respond.specs.declared.head.TheConstants.{HEAD_ROOM}
+use Rattle.cy_respond.specs.declared.head.TheConstants.{ANSWER_HEAD_ROOM}
 use Rattle.cy_rings.specs.declared.kit.TheConstants.{OUT_CAPACITY}
 
 abbrev pub told_commit : Option Commit → Option answering.Commit
@@ -34,7 +34,7 @@ answering_with s rings = record { sending = s; output = rings.output }
 
 -- how many bytes a head still takes at most
 abbrev pub head_room : Sending → ℕ
-head_room s = if is_committed s then 0 else HEAD_ROOM
+head_room s = if is_committed s then 0 else ANSWER_HEAD_ROOM
 
 -- how many bytes the end of an answer takes at most: the head where it isn't out, a piece, and the last chunk
 abbrev pub finish_room : Sending → ℕ

@@ -9,7 +9,7 @@ ghost use Rattle.cy_out.specs.Told.{told_asked, told_mode};
 use crate::chunk::{put, put_chunk};
 use crate::mode::{Answer, Mode};
 use cy_event::{NoMemory, Reply};
-use cy_respond::{HEAD_ROOM, RespHead};
+use cy_respond::{ANSWER_HEAD_ROOM, RespHead};
 use cy_rings::ConnKit;
 use itoa::Buffer;
 use std::alloc::Global;
@@ -246,7 +246,7 @@ impl BodyOut {
         }
         let status = head.status();
         let shape = self.asked.shape(status, known);
-        prove!(head.head_len(&shape) <= HEAD_ROOM);
+        prove!(head.head_len(&shape) <= ANSWER_HEAD_ROOM);
         head.write_head(&shape, at, kit);
         let mode = self.asked.mode(status, known);
         self.commit = Some(Commit {

@@ -5,7 +5,7 @@ ghost use Rattle.cy_model.specs.Outputs.{begin_text};
 ghost use Rattle.cy_event.specs.declared.limits.TheConstants.{GREATEST_MOMENT};
 ghost use Rattle.cy_rings.specs.declared.kit.TheConstants.{OUT_CAPACITY};
 ghost use Rattle.cy_proc.specs.AnswerBytes.{error_bytes, head_bytes, said};
-ghost use Rattle.cy_proc.specs.declared.answer.TheConstants.{HEAD_ROOM, ERROR_ROOM};
+ghost use Rattle.cy_proc.specs.declared.answer.TheConstants.{PLAIN_HEAD_ROOM, ERROR_ROOM};
 
 use cy_respond::date_of;
 use cy_rings::ConnKit;
@@ -36,11 +36,11 @@ impl Connection {
     }
 }
 
-/// The bytes of a head at most.
-pub const HEAD_ROOM: usize = 144;
+/// The bytes of the head of an answer in one piece at most.
+pub const PLAIN_HEAD_ROOM: usize = 144;
 
 /// The bytes of an error answer at most.
-pub const ERROR_ROOM: usize = HEAD_ROOM + 12;
+pub const ERROR_ROOM: usize = PLAIN_HEAD_ROOM + 12;
 
 /// The field line of an error answer.
 const ERROR_FIELDS: &[u8] = b"Content-Type: text/plain\r\n";
@@ -59,7 +59,7 @@ pub fn put_begin(kit: &mut ConnKit, go_on: bool)
 /// Puts the answer of status 200 with this content.
 pub fn put_answer(kit: &mut ConnKit, content: &[u8], at: u64, connection: Connection)
     requires moment { at ≤ GREATEST_MOMENT }
-    requires room { length kit.old.output + HEAD_ROOM + length content.now ≤ OUT_CAPACITY }
+    requires room { length kit.old.output + PLAIN_HEAD_ROOM + length content.now ≤ OUT_CAPACITY }
     ensures output { kit.new.output ≡ kit.old.output ++ answer_text (after_put content.now fresh_answer) at (said connection) }
     ensures input { kit.new.input ≡ kit.old.input }
 {
@@ -102,10 +102,10 @@ fn put_head(
 )
     requires moment { at ≤ GREATEST_MOMENT }
     requires fields { length fields.now ≤ 26 }
-    requires room { length kit.old.output + HEAD_ROOM ≤ OUT_CAPACITY }
+    requires room { length kit.old.output + PLAIN_HEAD_ROOM ≤ OUT_CAPACITY }
     ensures head { kit.new.output ≡ kit.old.output ++ head_bytes status fields.now size at connection }
     ensures input { kit.new.input ≡ kit.old.input }
-    ensures short { length kit.new.output ≤ length kit.old.output + HEAD_ROOM }
+    ensures short { length kit.new.output ≤ length kit.old.output + PLAIN_HEAD_ROOM }
 {
     let mut digits = Buffer::new();
     put(kit, b"HTTP/1.1 ");

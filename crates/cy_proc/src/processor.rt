@@ -14,7 +14,7 @@ ghost use Rattle.cy_proc.specs.ProcessorChanges.{after_job, after_return, after_
 ghost use Rattle.cy_proc.specs.Processors.{IsIdle, StandsFor, fresh_processor, has_request_at, is_free_at, is_open_at, is_over_at, part_at, request_folds};
 
 use crate::line::Line;
-use crate::verdict::{Judgement, judge};
+use crate::verdict::{BAD_REQUEST, Judgement, judge};
 use cy_event::{
     Act, Call, ChartItem, Event, Job, Limits, NoMemory, Reply, RequestHead, extend_in_room,
 };
@@ -41,8 +41,6 @@ pub enum Stage {
 
 /// Bytes of content that wait for the head at most.
 const CONTENT_BUFFER: usize = 8192;
-
-const BAD_REQUEST: u16 = 400;
 
 const NOT_FOUND: u16 = 404;
 

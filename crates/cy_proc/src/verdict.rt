@@ -30,7 +30,7 @@ pub enum Judgement {
     },
 }
 
-const BAD_REQUEST: u16 = 400;
+pub(crate) const BAD_REQUEST: u16 = 400;
 
 const NOT_IMPLEMENTED: u16 = 501;
 

@@ -45,7 +45,7 @@ const END_LEN: usize = 39;
 const CHUNKED_LINE: &[u8] = b"Transfer-Encoding: chunked\r\n";
 
 /// The bytes of a head at most, with both fields that frame content.
-pub const HEAD_ROOM: usize = 7544;
+pub const ANSWER_HEAD_ROOM: usize = 7544;
 
 /// Where the line of a field stands: its name from `start` to `colon`, its value from two bytes behind to `end`.
 #[derive(Clone, Copy, Debug, PartialEq, Eq)]
@@ -175,7 +175,7 @@ impl RespHead {
     /// How many bytes `write_head` puts for this shape, at any moment.
     pub fn head_len(&self, shape: &Shape) -> usize
         ensures exact { (at : ℕ) → length (head_of_shape self.now (told_shape shape.now) at) ≡ result }
-        ensures within { result ≤ HEAD_ROOM }
+        ensures within { result ≤ ANSWER_HEAD_ROOM }
     {
         let mut digits = Buffer::new();
         START_LEN

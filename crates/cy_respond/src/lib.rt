@@ -9,7 +9,7 @@ mod shape;
 
 pub use cy_event::NoMemory;
 pub use date::date_of;
-pub use head::{FIELD_LIMIT, FIELD_SIZE_LIMIT, HEAD_ROOM, RespHead};
+pub use head::{ANSWER_HEAD_ROOM, FIELD_LIMIT, FIELD_SIZE_LIMIT, RespHead};
 pub use shape::{Connection, Shape};
 
 #[cfg(test)]
