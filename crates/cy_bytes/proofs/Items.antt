@@ -4,9 +4,9 @@ use Rattle.std.specs.Prelude.{option_map}
 use Rattle.std.proofs.lemmas.Bool.Decides.{nat_tests}
 use Rattle.std.proofs.lemmas.Option.{cond_some, some_pair_parts}
 use Rattle.std.specs.Char.{digit_value, digit_char, is_digit}
-use Rattle.cy_bytes.specs.Quoting.{Item, Itself, Escape, HexEscape, item_text, StandsFor, spelling_of, escaped, hex_at, escape_at, item_at}
+use Rattle.cy_bytes.specs.Quoting.{Item, Itself, Escape, HexEscape, item_text, Spells, spelling_of, escaped, hex_at, escape_at, item_at}
 
-pub item_again : (item : Item) (b : ℕ) (rest : List ℕ) → StandsFor item b → item_at (item_text item ++ rest) ≡ Some (b, rest)
+pub item_again : (item : Item) (b : ℕ) (rest : List ℕ) → Spells item b → item_at (item_text item ++ rest) ≡ Some (b, rest)
 item_again (Itself c) b rest h = grind (arith, nat_tests)
 item_again (Escape letter) b rest h = grind (arith, nat_tests)
 item_again (HexEscape high low) b rest h = grind (arith, nat_tests)
@@ -14,7 +14,7 @@ item_again (HexEscape high low) b rest h = grind (arith, nat_tests)
 -- The text begins with an item of this byte, and goes on with the rest.
 pub record Begins (text : List ℕ) (b : ℕ) (rest : List ℕ) : Type 0 where
   pub item : Item
-  pub stands : StandsFor item b
+  pub stands : Spells item b
   pub parts : text ≡ item_text item ++ rest
 
 -- which way a test went
@@ -85,7 +85,7 @@ either true P x y first second = first refl
 either false P x y first second = second refl
 
 abbrev IsOneItem : ℕ → List ℕ → Type 0
-IsOneItem b text = (item : Item) × StandsFor item b × (text ≡ item_text item)
+IsOneItem b text = (item : Item) × Spells item b × (text ≡ item_text item)
 
 pub spelling_of_is_item : (b : ℕ) → b < 256 → IsOneItem b (spelling_of b)
 spelling_of_is_item b small =

@@ -36,21 +36,21 @@ item_text (Itself b) = b ∷ []
 item_text (Escape letter) = backslash ∷ letter ∷ []
 item_text (HexEscape high low) = backslash ∷ byte "x" ∷ high ∷ low ∷ []
 
--- the item stands for the byte
-abbrev pub StandsFor : Item → ℕ → Type 0
-StandsFor (Itself c) b = StandsAsItself c × (b ≡ c)
-StandsFor (Escape letter) b = escaped letter ≡ Some b
-StandsFor (HexEscape high low) b = (digit_value high < 16) × (digit_value low < 16) × (b ≡ digit_value high * 16 + digit_value low)
+-- the item spells the byte
+abbrev pub Spells : Item → ℕ → Type 0
+Spells (Itself c) b = StandsAsItself c × (b ≡ c)
+Spells (Escape letter) b = escaped letter ≡ Some b
+Spells (HexEscape high low) b = (digit_value high < 16) × (digit_value low < 16) × (b ≡ digit_value high * 16 + digit_value low)
 
 -- The text spells these bytes: an item for each, one after another.
 abbrev pub IsSpelling : List ℕ → List ℕ → Type 0
 IsSpelling text [] = text ≡ []
-IsSpelling text (b ∷ bytes) = (item : Item) × (rest : List ℕ) × StandsFor item b × (text ≡ item_text item ++ rest) × IsSpelling rest bytes
+IsSpelling text (b ∷ bytes) = (item : Item) × (rest : List ℕ) × Spells item b × (text ≡ item_text item ++ rest) × IsSpelling rest bytes
 
 -- The text goes on, and no item begins it.
 pub record BeginsNoItem (text : List ℕ) : Type 0 where
   pub goes_on : text ≢ []
-  pub no_item : (item : Item) (b : ℕ) (rest : List ℕ) → StandsFor item b → text ≢ item_text item ++ rest
+  pub no_item : (item : Item) (b : ℕ) (rest : List ℕ) → Spells item b → text ≢ item_text item ++ rest
 
 -- In front of the place are whole items, and none begins at the place.
 pub record HasFirstFault (text : List ℕ) (place : ℕ) : Type 0 where

@@ -97,8 +97,8 @@ cut head at a = with_piece (with_head head at (set_length_of a.sending) a)
 abbrev pub can_cut : List ℕ → Bool
 can_cut output = nat_le (cut_room + length output) output_limit
 
-abbrev pub is_full : Sending → Bool
-is_full s = not (nat_lt (length s.waiting) content_buffer)
+abbrev pub is_buffer_full : Sending → Bool
+is_buffer_full s = not (nat_lt (length s.waiting) content_buffer)
 
 -- ---- writes
 
@@ -108,11 +108,11 @@ with_bytes bytes s = record s { waiting = s.waiting ++ bytes; left = option_map 
 
 -- one byte more can be taken: the buffer has room for it, or there is room to cut what waits
 abbrev pub can_take : Answering → Bool
-can_take a = not (is_full a.sending) || can_cut a.output
+can_take a = not (is_buffer_full a.sending) || can_cut a.output
 
 -- with room in the buffer: what waits is cut where it is full
 abbrev pub with_room : Answer → ℕ → Answering → Answering
-with_room head at a = elim (is_full a.sending) [ true ↦ cut head at a | false ↦ a ]
+with_room head at a = elim (is_buffer_full a.sending) [ true ↦ cut head at a | false ↦ a ]
 
 -- one byte more, which can be taken
 abbrev pub push_byte : Answer → ℕ → ℕ → Answering → Answering

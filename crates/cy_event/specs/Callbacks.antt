@@ -115,8 +115,8 @@ entered timeout at read write from state.Completing c = owing_completes c
 entered timeout at read write from to c = c
 
 -- the same by the row of a call in a state; an end leaves the state, and nothing is owed for it
-abbrev pub after_row : ℕ → ℕ → Bool → Bool → State → Option Row → Context → Context
-after_row timeout at read write from None c = c
-after_row timeout at read write from (Some (On to)) c = entered timeout at read write from to c
-after_row timeout at read write from (Some (Wake to)) c = entered timeout at read write from to c
-after_row timeout at read write from (Some Ends) c = c
+abbrev pub context_after_row : ℕ → ℕ → Bool → Bool → State → Option Row → Context → Context
+context_after_row timeout at read write from None c = c
+context_after_row timeout at read write from (Some (On to)) c = entered timeout at read write from to c
+context_after_row timeout at read write from (Some (Wake to)) c = entered timeout at read write from to c
+context_after_row timeout at read write from (Some Ends) c = c

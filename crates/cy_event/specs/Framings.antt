@@ -93,8 +93,8 @@ has_body Chunked = true
 -- ---- the connection and expectations
 
 -- the connection persists by its options (RFC 9112, section 9.3)
-abbrev pub is_kept : ℕ → List (List ℕ) → Bool
-is_kept minor options = not (has_word (codes "close") options) && (not (minor == 0) || has_word (codes "keep-alive") options)
+abbrev pub persists : ℕ → List (List ℕ) → Bool
+persists minor options = not (has_word (codes "close") options) && (not (minor == 0) || has_word (codes "keep-alive") options)
 
 abbrev pub is_continue : List ℕ → Bool
 is_continue expectation = is_word (codes "100-continue") expectation
@@ -104,8 +104,8 @@ abbrev pub is_met : ℕ → List (List ℕ) → Bool
 is_met minor expectations = minor == 0 || list_all is_continue expectations
 
 -- the client waits for `100 Continue` before it sends the body
-abbrev pub is_awaited : ℕ → List (List ℕ) → Framing → Bool
-is_awaited minor expectations body = (not (minor == 0) && list_any is_continue expectations) && has_body body
+abbrev pub awaits_continue : ℕ → List (List ℕ) → Framing → Bool
+awaits_continue minor expectations body = (not (minor == 0) && list_any is_continue expectations) && has_body body
 
 -- ---- all of it
 
@@ -120,7 +120,7 @@ abbrev pub framed_by : ℕ → List (List ℕ) → List (List ℕ) → Result Fr
 framed_by minor options expectations (Err status) = Err status
 framed_by minor options expectations (Ok body) =
     if is_met minor expectations
-    then Ok (record { body = body; keep = is_kept minor options; go_on = is_awaited minor expectations body })
+    then Ok (record { body = body; keep = persists minor options; go_on = awaits_continue minor expectations body })
     else Err expectation_failed
 
 -- of a head with this minor version and these fields, or the status that refuses it

@@ -4,9 +4,9 @@ use Rattle.std.specs.List.{concat, list_any}
 use Rattle.cy_event.specs.Answers.{content_buffer}
 
 -- what was done with the content of an answer
-pub data Mark : Type 0 where
-  put : List ℕ → Mark
-  flushed : Mark
+pub data PutOrFlush : Type 0 where
+  put : List ℕ → PutOrFlush
+  flushed : PutOrFlush
 
 -- How many pieces a run of n bytes has: one begins at 0 and at each multiple of 8,192, where a byte stands there.
 abbrev pub piece_count : ℕ → ℕ
@@ -22,25 +22,25 @@ abbrev pub run_pieces : List ℕ → List (List ℕ)
 run_pieces run = first_pieces (piece_count (length run)) run
 
 -- The pieces, where this run stands behind the last flush. A flush ends a run, and so does the end of the content.
-abbrev pub pieces_behind : List ℕ → List Mark → List (List ℕ)
+abbrev pub pieces_behind : List ℕ → List PutOrFlush → List (List ℕ)
 pieces_behind run [] = run_pieces run
 pieces_behind run (put bytes ∷ marks) = pieces_behind (run ++ bytes) marks
 pieces_behind run (flushed ∷ marks) = run_pieces run ++ pieces_behind [] marks
 
 -- Those that are cut before the end: all but the last of the run behind the last flush.
-abbrev pub cut_pieces : List ℕ → List Mark → List (List ℕ)
+abbrev pub cut_pieces : List ℕ → List PutOrFlush → List (List ℕ)
 cut_pieces run [] = first_pieces (piece_count (length run) - 1) run
 cut_pieces run (put bytes ∷ marks) = cut_pieces (run ++ bytes) marks
 cut_pieces run (flushed ∷ marks) = run_pieces run ++ cut_pieces [] marks
 
 -- the runs of content, where this one stands behind the last flush
-abbrev pub runs_behind : List ℕ → List Mark → List (List ℕ)
+abbrev pub runs_behind : List ℕ → List PutOrFlush → List (List ℕ)
 runs_behind run [] = run ∷ []
 runs_behind run (put bytes ∷ marks) = runs_behind (run ++ bytes) marks
 runs_behind run (flushed ∷ marks) = run ∷ runs_behind [] marks
 
 -- the content that was put, one after another
-abbrev pub content_put : List Mark → List ℕ
+abbrev pub content_put : List PutOrFlush → List ℕ
 content_put [] = []
 content_put (put bytes ∷ marks) = bytes ++ content_put marks
 content_put (flushed ∷ marks) = content_put marks
@@ -52,12 +52,12 @@ pub record IsPiece (piece : List ℕ) : Type 0 where
 
 -- ---- cuts
 
-abbrev pub is_flush : Mark → Bool
+abbrev pub is_flush : PutOrFlush → Bool
 is_flush (put bytes) = false
 is_flush flushed = true
 
 -- Something is cut before the end: there is a flush, or more content than waits at most.
-abbrev pub is_cut_early : List ℕ → List Mark → Bool
+abbrev pub is_cut_early : List ℕ → List PutOrFlush → Bool
 is_cut_early run marks = list_any is_flush marks || nat_lt content_buffer (length (run ++ content_put marks))
 
 -- ---- places

@@ -155,5 +155,5 @@ abbrev pub ends_from : State → List Call → Bool
 ends_from s [] = false
 ends_from s (k ∷ ks) = is_end (row s k) || ends_from (next_state s k) ks
 
-abbrev pub has_ended : List Call → Bool
-has_ended ks = ends_from state.Dispatched ks
+abbrev pub has_request_ended : List Call → Bool
+has_request_ended ks = ends_from state.Dispatched ks

@@ -10,17 +10,17 @@ use Rattle.cy_bytes.specs.Tokens as token
 use Rattle.cy_event.specs.Framings.{greatest_length, is_number, length_framing}
 use Rattle.cy_event.specs.declared.framing.Framing.{Framing}
 use Rattle.cy_event.specs.declared.framing.Framing.TheVariants.{Length}
-use Rattle.cy_framing.specs.Lists.{after_length, after_number, length_in, lengths_verdict, without_zeros}
+use Rattle.cy_framing.specs.Lists.{after_element, after_number, length_in, lengths_verdict, without_zeros}
 use Rattle.cy_framing.specs.declared.lengths.Lengths.{Lengths}
 use Rattle.cy_framing.specs.declared.lengths.Lengths.TheVariants.{Unknown, Same, Refused}
 
 -- ---- all elements
 
-refused_stays : (elements : List (List ℕ)) → fold after_length Refused elements ≡ Refused
+refused_stays : (elements : List (List ℕ)) → fold after_element Refused elements ≡ Refused
 refused_stays [] = refl
 refused_stays (element ∷ elements) = by_number (length_in element) ∙ refused_stays elements
   where
-    by_number : (n : Option ℕ) → fold after_length (after_number Refused n) elements ≡ fold after_length Refused elements
+    by_number : (n : Option ℕ) → fold after_element (after_number Refused n) elements ≡ fold after_element Refused elements
     by_number None = refl
     by_number (Some n) = refl
 
@@ -44,25 +44,25 @@ eqb-sym m n = elim (cases_Bool (eqb n m)) as (λ w. eqb m n ≡ eqb n m) [
       | inr other ↦ other
     ]
 
-after_same : (m : ℕ) (element : List ℕ) → leb m greatest_length ≡ true → after_length (Same m) element ≡ cond (is_number m element) (Same m) Refused
+after_same : (m : ℕ) (element : List ℕ) → leb m greatest_length ≡ true → after_element (Same m) element ≡ cond (is_number m element) (Same m) Refused
 after_same m element small =
     let n : ℕ = digits_value 10 element in
     same_by_tests m n (list_all (λ b. is_digit b 10) element) (leb n greatest_length) (eqb n m) (eqb-sym m n)
     (λ same. ap (λ (k : ℕ). leb k greatest_length) (eqb-true n m same) ∙ small)
 
-same_by_test : (m : ℕ) (elements : List (List ℕ)) → fold after_length (Same m) elements ≡ cond (list_all (is_number m) elements) (Same m) Refused
-    → (t : Bool) → fold after_length (cond t (Same m) Refused) elements ≡ cond (t && list_all (is_number m) elements) (Same m) Refused
+same_by_test : (m : ℕ) (elements : List (List ℕ)) → fold after_element (Same m) elements ≡ cond (list_all (is_number m) elements) (Same m) Refused
+    → (t : Bool) → fold after_element (cond t (Same m) Refused) elements ≡ cond (t && list_all (is_number m) elements) (Same m) Refused
 same_by_test m elements ih true = ih
 same_by_test m elements ih false = refused_stays elements
 
-all_same : (m : ℕ) (elements : List (List ℕ)) → leb m greatest_length ≡ true → fold after_length (Same m) elements ≡ cond (list_all (is_number m) elements) (Same m) Refused
+all_same : (m : ℕ) (elements : List (List ℕ)) → leb m greatest_length ≡ true → fold after_element (Same m) elements ≡ cond (list_all (is_number m) elements) (Same m) Refused
 all_same m [] small = refl
 all_same m (element ∷ elements) small =
-    ap (λ (lengths : Lengths). fold after_length lengths elements) (after_same m element small)
+    ap (λ (lengths : Lengths). fold after_element lengths elements) (after_same m element small)
     ∙ same_by_test m elements (all_same m elements small) (is_number m element)
 
 first_by_tests : (n : ℕ) (elements : List (List ℕ)) (digits small : Bool) → leb n greatest_length ≡ small
-    → lengths_verdict (fold after_length (after_number Unknown (cond (digits && small) (Some n) None)) elements)
+    → lengths_verdict (fold after_element (after_number Unknown (cond (digits && small) (Some n) None)) elements)
     ≡ cond (((digits && true) && list_all (is_number n) elements) && small) (Ok (Length n)) (Err 400)
 first_by_tests n elements true true small =
     ap lengths_verdict (all_same n elements small) ∙ by_test (list_all (is_number n) elements)
@@ -78,7 +78,7 @@ first_by_tests n elements true false small =
     by_test false = refl
 first_by_tests n elements false small e = ap lengths_verdict (refused_stays elements)
 
-pub lengths_tell : (elements : List (List ℕ)) → lengths_verdict (fold after_length Unknown elements) ≡ length_framing elements
+pub lengths_tell : (elements : List (List ℕ)) → lengths_verdict (fold after_element Unknown elements) ≡ length_framing elements
 lengths_tell [] = refl
 lengths_tell (element ∷ elements) =
     let n : ℕ = digits_value 10 element in

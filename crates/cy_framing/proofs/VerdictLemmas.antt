@@ -3,7 +3,7 @@ use Rattle.std.proofs.Common.{◌≡◌, ℕ, Bool, true, false, not, ◌&&◌, 
 use Rattle.std.specs.List.{list_any}
 use Rattle.std.proofs.lemmas.Bool.{cond-true, cond-false}
 use Rattle.cy_event.specs.Heads.{Field, is_named, values_of}
-use Rattle.cy_event.specs.Framings.{bad_request, body_framing, coding_framing, elements_of, expectation_failed, framed, framed_by, framing_by, has_body, is_awaited, is_continue, is_kept, is_met, length_framing}
+use Rattle.cy_event.specs.Framings.{bad_request, body_framing, coding_framing, elements_of, expectation_failed, framed, framed_by, framing_by, has_body, awaits_continue, is_continue, persists, is_met, length_framing}
 use Rattle.cy_event.specs.declared.framing.Framing.{Framing}
 use Rattle.cy_event.specs.declared.framing.Framing.TheVariants.{None as no_body}
 use Rattle.cy_framing.proofs.BothLemmas.{no_lines, some_lines}
@@ -66,20 +66,20 @@ expectation_is_refused minor fields body other e met failed =
     ∙ cond-false (is_met minor (expectations fields)) _ _ (sym met ∙ ap not failed))
 
 pub all_is_told : (minor : ℕ) (fields : List Field) (body : Framing) (other keep go_on : Bool) → Ok body ≡ body_framing minor fields
-    → not other ≡ is_met minor (expectations fields) → other ≡ false → keep ≡ is_kept minor (options fields)
-    → go_on ≡ is_awaited minor (expectations fields) body
+    → not other ≡ is_met minor (expectations fields) → other ≡ false → keep ≡ persists minor (options fields)
+    → go_on ≡ awaits_continue minor (expectations fields) body
     → Ok (record { body = body; keep = keep; go_on = go_on }) ≡ framed minor fields
 unfolding framed
 all_is_told minor fields body other keep go_on e met fine k g =
     sym (sym (ap (framed_by minor (options fields) (expectations fields)) e)
     ∙ cond-true (is_met minor (expectations fields)) _ _ (sym met ∙ ap not fine)
-    ∙ ap (λ (t : Bool). Ok (record { body = body; keep = t; go_on = is_awaited minor (expectations fields) body })) (sym k)
+    ∙ ap (λ (t : Bool). Ok (record { body = body; keep = t; go_on = awaits_continue minor (expectations fields) body })) (sym k)
     ∙ ap (λ (t : Bool). Ok (record { body = body; keep = keep; go_on = t })) (sym g))
 
 pub awaited : (minor : ℕ) (elements : List (List ℕ)) (body : Framing) (go_on comes : Bool) → go_on ≡ (not (eqb minor 0) && list_any is_continue elements)
-    → go_on ≡ true → comes ≡ has_body body → comes ≡ is_awaited minor elements body
+    → go_on ≡ true → comes ≡ has_body body → comes ≡ awaits_continue minor elements body
 awaited minor elements body go_on comes e some is = is ∙ ap (λ (t : Bool). t && has_body body) (sym (sym e ∙ some))
 
 pub not_awaited : (minor : ℕ) (elements : List (List ℕ)) (body : Framing) (go_on : Bool) → go_on ≡ (not (eqb minor 0) && list_any is_continue elements)
-    → go_on ≡ false → go_on ≡ is_awaited minor elements body
+    → go_on ≡ false → go_on ≡ awaits_continue minor elements body
 not_awaited minor elements body go_on e none = none ∙ ap (λ (t : Bool). t && has_body body) (sym (sym e ∙ none))

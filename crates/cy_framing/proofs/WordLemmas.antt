@@ -3,7 +3,7 @@ use Rattle.std.proofs.Common.{◌≡◌, ℕ, Bool, true, false, not, ◌&&◌, 
 use Rattle.std.proofs.lemmas.Bool.{ne_eqb}
 use Rattle.std.specs.Prelude.{fold, codes}
 use Rattle.std.specs.List.{list_all, list_any}
-use Rattle.cy_event.specs.Framings.{has_word, is_continue, is_kept, is_word}
+use Rattle.cy_event.specs.Framings.{has_word, is_continue, persists, is_word}
 use Rattle.cy_framing.specs.Lists.{after_expectation, after_option}
 use Rattle.cy_framing.specs.declared.connection.Options.{Options}
 use Rattle.cy_framing.specs.declared.expectations.Expected.{Expected}
@@ -79,7 +79,7 @@ expected_tell elements told e =
 -- ---- by version
 
 pub kept_is : (minor version : ℕ) (elements : List (List ℕ)) (told : Options) → version ≡ minor → told ≡ fold after_option (record { close = false; keep_alive = false }) elements
-    → (not told.close && (not (eqb version 0) || told.keep_alive)) ≡ is_kept minor elements
+    → (not told.close && (not (eqb version 0) || told.keep_alive)) ≡ persists minor elements
 kept_is minor version elements told same e =
     let tells = options_tell elements told e in
     ap (λ (v : ℕ). not told.close && (not (eqb v 0) || told.keep_alive)) same

@@ -48,8 +48,8 @@ after_number agreed.Unknown (Some n) = agreed.Same n
 after_number (agreed.Same m) (Some n) = if m == n then agreed.Same m else agreed.Refused
 after_number agreed.Refused (Some n) = agreed.Refused
 
-abbrev pub after_length : Lengths → List ℕ → Lengths
-after_length lengths element = after_number lengths (length_in element)
+abbrev pub after_element : Lengths → List ℕ → Lengths
+after_element lengths element = after_number lengths (length_in element)
 
 -- the framing that they tell
 abbrev pub lengths_verdict : Lengths → Result Framing ℕ

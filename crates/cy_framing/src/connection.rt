@@ -2,7 +2,7 @@
 
 ghost use Rattle.std.specs.Prelude.{◌≡◌, ◌==◌, ◌&&◌, ◌||◌, not, codes};
 ghost use Rattle.cy_event.specs.Heads.{values_of};
-ghost use Rattle.cy_event.specs.Framings.{elements_of, is_kept};
+ghost use Rattle.cy_event.specs.Framings.{elements_of, persists};
 
 use crate::elements::{Tally, is_word, take_elements};
 use cy_event::RequestHead;
@@ -36,8 +36,8 @@ impl Options {
 
 /// Whether the connection is kept after the request: HTTP/1.1 unless `close` is said, and HTTP/1.0 where `keep-alive`
 /// is said and `close` isn't.
-pub fn is_kept(head: &RequestHead) -> bool
-    ensures { result ≡ is_kept head.now.head.minor
+pub fn persists(head: &RequestHead) -> bool
+    ensures { result ≡ persists head.now.head.minor
         (elements_of (values_of (codes "Connection") head.now.head.fields)) }
 {
     let mut options = Options {

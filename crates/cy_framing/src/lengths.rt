@@ -26,9 +26,9 @@ enum Lengths {
 }
 
 impl Tally for Lengths {
-    ghost use Rattle.cy_framing.specs.Lists.{after_length};
+    ghost use Rattle.cy_framing.specs.Lists.{after_element};
 
-    ghost after = { after_length };
+    ghost after = { after_element };
 
     fn take(&mut self, element: &[u8]) {
         *self = match (*self, length_in(element)) {

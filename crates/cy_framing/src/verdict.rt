@@ -5,7 +5,7 @@ ghost use Rattle.cy_event.specs.Framings.{body_framing, framed, has_body};
 ghost use Rattle.cy_framing.specs.Told.{shown};
 
 use crate::codings::coding_framing;
-use crate::connection::is_kept;
+use crate::connection::persists;
 use crate::elements::has_field;
 use crate::expectations::expected_by;
 use crate::lengths::length_framing;
@@ -43,7 +43,7 @@ pub fn framing(head: &RequestHead) -> Result<Framed, u16>
     }
     Ok(Framed {
         body,
-        keep: is_kept(head),
+        keep: persists(head),
         go_on: expected.go_on && has_body(body),
     })
 }

@@ -2,7 +2,7 @@
 use Rattle.std.proofs.Common.{◌≡◌, ◌↔◌, ℕ, ◌<◌, Bool, true, false, cond, List, length, leb, Option, Some, None, refl, sym, ap, ◌∙◌}
 use Rattle.std.proofs.lemmas.Bool.{cond-false, leb-false, lt-leb}
 use Rattle.cy_event.specs.Heads.{awaited, front_length, head_of}
-use Rattle.cy_head.specs.Answers.{due_by, due_of}
+use Rattle.cy_head.specs.Answers.{due_by, due_by_bytes}
 use Rattle.cy_head.specs.declared.due.Due.{Due}
 use Rattle.cy_head.specs.declared.due.Due.TheVariants.{Wait, TooLong}
 use Rattle.cy_head.proofs.HeadFronts.{heads_are_awaited}
@@ -20,7 +20,7 @@ wait_from max_head size front none small =
     ap (due_by max_head size) none ∙ cond-false _ _ _ (lt-leb _ _ small)
 
 -- no head is due exactly where one is awaited
-pub wait_is_awaited : (max_head max_fields : ℕ) (bytes : List ℕ) (answer : Due) → answer ≡ due_of max_head bytes
+pub wait_is_awaited : (max_head max_fields : ℕ) (bytes : List ℕ) (answer : Due) → answer ≡ due_by_bytes max_head bytes
     → (answer ≡ Wait) ↔ (head_of max_head max_fields bytes ≡ awaited)
 wait_is_awaited max_head max_fields bytes answer is =
     let law = heads_are_awaited max_head max_fields bytes in (

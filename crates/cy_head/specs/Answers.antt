@@ -38,8 +38,8 @@ due_by max_head size None = if nat_le max_head size then due.TooLong else due.Wa
 due_by max_head size (Some n) = due.Front n
 
 -- whether a head of at most max_head bytes is due
-abbrev pub due_of : ℕ → List ℕ → Due
-due_of max_head bytes = due_by max_head (length bytes) (front_length bytes)
+abbrev pub due_by_bytes : ℕ → List ℕ → Due
+due_by_bytes max_head bytes = due_by max_head (length bytes) (front_length bytes)
 
 -- the spans cover the parts of the head that is found
 abbrev pub Locates : Front → List ℕ → List HeaderSpan → FrontSpans → Type 0

@@ -2,7 +2,7 @@
 
 ghost use Rattle.std.specs.Prelude.{◌≡◌, ◌↔◌, ◌≤◌, length, IfSome};
 ghost use Rattle.cy_event.specs.Heads.{awaited, front_length, head_of, is_empty_line};
-ghost use Rattle.cy_head.specs.Answers.{due_of};
+ghost use Rattle.cy_head.specs.Answers.{due_by_bytes};
 
 use cy_event::Limits;
 use memchr::memchr;
@@ -21,7 +21,7 @@ pub enum Due {
 /// Tells whether a head is due at the front of the bytes, without reading it: whether `head_front` answers something
 /// other than `Wait`. The front is everything up to the first empty line behind a line that isn't empty.
 pub fn head_due(bytes: &[u8], limits: &Limits) -> Due
-    ensures due { result ≡ due_of limits.now.max_head bytes.now }
+    ensures due { result ≡ due_by_bytes limits.now.max_head bytes.now }
     ensures wait { (result ≡ Due.Wait) ↔ (head_of limits.now.max_head limits.now.max_fields bytes.now ≡ awaited) }
 {
     match front_of(bytes) {

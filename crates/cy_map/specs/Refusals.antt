@@ -9,15 +9,15 @@ abbrev pub first_bad : List Rule → Option ℕ
 first_bad rules = position (λ rule. not (is_pattern rule.pattern)) rules
 
 -- where the pattern of the rule at this place stands first among the rules before it
-abbrev pub earlier : List Rule → ℕ → Option ℕ
-earlier rules place = option_and_then (λ rule. position (λ other. bytes_eq other.pattern rule.pattern) (take place rules)) (slice_get rules place)
+abbrev pub earlier_rule : List Rule → ℕ → Option ℕ
+earlier_rule rules place = option_and_then (λ rule. position (λ other. bytes_eq other.pattern rule.pattern) (take place rules)) (slice_get rules place)
 
 -- the pattern at j is the first that stands before, and it stands first at i
 pub record IsFirstRepeat (rules : List Rule) (i j : ℕ) : Type 0 where
-  pub first : (place : ℕ) → place < j → earlier rules place ≡ None
-  pub stands : earlier rules j ≡ Some i
+  pub first : (place : ℕ) → place < j → earlier_rule rules place ≡ None
+  pub stands : earlier_rule rules j ≡ Some i
 
 -- every pattern is one, and none stands twice
 pub record IsTaken (rules : List Rule) : Type 0 where
   pub good : first_bad rules ≡ None
-  pub distinct : (place : ℕ) → earlier rules place ≡ None
+  pub distinct : (place : ℕ) → earlier_rule rules place ≡ None

@@ -2,7 +2,7 @@
 ghost use Rattle.std.specs.Prelude.{◌≡◌, ◌<◌, ◌≤◌, ◌↔◌, ℕ, length, position, option_copied, option_map, bytes_eq, IfSome, IfNone, IfOk, OnOk, Err, Some, None};
 ghost use Rattle.cy_map.specs.declared.fault.MapFault.TheVariants.{BadPattern, RuleTwice};
 ghost use Rattle.cy_map.specs.Mapping.{mapped, found_of, is_default_rule};
-ghost use Rattle.cy_map.specs.Refusals.{first_bad, earlier, IsFirstRepeat, IsTaken};
+ghost use Rattle.cy_map.specs.Refusals.{first_bad, earlier_rule, IsFirstRepeat, IsTaken};
 ghost use Rattle.cy_map.specs.Indexes.{AreBasesWithin};
 
 use crate::fault::MapFault;
@@ -122,7 +122,7 @@ fn first_bad(rules: &[Rule]) -> Option<usize>
 /// The first rule whose pattern stands before, as the place where that stands first and its own.
 fn first_repeat(rules: &[Rule]) -> Option<(usize, usize)>
     ensures found { IfSome result (λ pair. IsFirstRepeat rules.now pair.0 pair.1) }
-    ensures none { IfNone result ((place : ℕ) → earlier rules.now place ≡ None) }
+    ensures none { IfNone result ((place : ℕ) → earlier_rule rules.now place ≡ None) }
     ensures within { IfSome result (λ pair. (pair.0 < length rules.now) × (pair.1 < length rules.now)) }
 {
     for (place, rule) in rules.iter().enumerate() {

@@ -14,7 +14,7 @@ use Rattle.cy_event.specs.declared.steps.Job.TheVariants as job
 use Rattle.cy_event.specs.declared.steps.State.{State}
 use Rattle.cy_event.specs.declared.steps.State.TheVariants as state
 use Rattle.cy_event.specs.Answers.{Answer}
-use Rattle.cy_event.specs.Answering.{Answering, Commit, Sending, Took, after_finish, can_take, cut, is_full, is_short, mode_in, more_by, push_byte, push_bytes, set_length_of, whole_length_of, with_head, with_room}
+use Rattle.cy_event.specs.Answering.{Answering, Commit, Sending, Took, after_finish, can_take, cut, is_buffer_full, is_short, mode_in, more_by, push_byte, push_bytes, set_length_of, whole_length_of, with_head, with_room}
 use Rattle.cy_event.specs.Bodies.{body_start}
 use Rattle.cy_event.specs.Callbacks.{Context, is_owed_to_listener, no_context}
 use Rattle.cy_event.specs.ReadyListeners.{no_listeners}
@@ -27,7 +27,7 @@ use Rattle.cy_model.specs.Jobs.{asking, first_job, first_owed, job_owed, next_jo
 use Rattle.cy_model.specs.Marks.{Mark, TakenUp, Trace, began, refused, called, started, parked, back, given, end_given, listened, timeout_set, read_listener_set, write_listener_set, not_ready, length_set, answer_reset, put, flushed, error_answer, aborted, over, broken}
 use Rattle.cy_model.specs.Outputs.{answer_of, answering_of, end_by, is_aborted, is_silent, said_by, sending_of}
 use Rattle.cy_model.specs.Settling.{body_cause, body_cause_by, body_move, cause_and_fault, input_move, is_quiet, return_marks_in, return_move}
-use Rattle.cy_model.specs.Unbuilt.{NothingUnbuilt, is_unbuilt, is_unbuilt_call, is_unbuilt_job}
+use Rattle.cy_model.specs.Unbuilt.{NothingUnbuilt, is_unbuilt_mark, is_unbuilt_call, is_unbuilt_job}
 use Rattle.cy_model.specs.Verdicts.{is_framed, is_head_method}
 use Rattle.cy_model.proofs.Places.{whole_stays}
 
@@ -94,7 +94,7 @@ head_left head t n a = by_commit a.sending.commit refl
 
 room_left : (head : Answer) (t : ℕ) (a : Answering) → (with_room head t a).sending.left ≡ a.sending.left
 room_left head t a =
-    elim (is_full a.sending) as (λ v. let r : Answering = elim v [ true ↦ cut head t a | false ↦ a ] in r.sending.left ≡ a.sending.left) [
+    elim (is_buffer_full a.sending) as (λ v. let r : Answering = elim v [ true ↦ cut head t a | false ↦ a ] in r.sending.left ≡ a.sending.left) [
       | true ↦ head_left head t (set_length_of a.sending) a
       | false ↦ refl
     ]
@@ -136,7 +136,7 @@ module _ (t : ℕ) (T : Trace) (p : IsPlain T) where
     unset = u;
   }
 
-  pub mark_plain : (m : Mark) → is_unbuilt m ≡ false → IsPlain ((t, m) ∷ T)
+  pub mark_plain : (m : Mark) → is_unbuilt_mark m ≡ false → IsPlain ((t, m) ∷ T)
   mark_plain (began r) e = record {
     here = refl;
     context = refl;

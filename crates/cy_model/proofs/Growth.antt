@@ -5,7 +5,7 @@ use Rattle.cy_map.specs.declared.rule.Rule.{Rule}
 use Rattle.cy_event.specs.declared.steps.CloseCause.{CloseCause}
 use Rattle.cy_event.specs.Answers.{Answer, refusal_text}
 use Rattle.cy_event.specs.AnswerModes.{last_text, piece_text}
-use Rattle.cy_event.specs.Answering.{Answering, Commit, Took, after_finish, can_take, cut, is_full, mode_in, more_by, push_byte, push_bytes, set_length_of, whole_length_of, with_head, with_piece, with_room}
+use Rattle.cy_event.specs.Answering.{Answering, Commit, Took, after_finish, can_take, cut, is_buffer_full, mode_in, more_by, push_byte, push_bytes, set_length_of, whole_length_of, with_head, with_piece, with_room}
 use Rattle.cy_model.specs.Folds.{bytes_of, calls, cause_of, earlier, ended_charts, requests_of}
 use Rattle.cy_model.specs.Outputs.{answer_of, answering_of, begin_text, finished_by, is_silent, output, said_by, unsent, writing}
 use Rattle.cy_model.specs.Laws.{NothingIsTakenBack, OnlyGrows}
@@ -66,7 +66,7 @@ cut_begins head t a =
 
 room_begins : (head : Answer) (t : ℕ) (a : Answering) → Begins a.output (with_room head t a).output
 room_begins head t a =
-    elim (is_full a.sending) as (λ v. let r : Answering = elim v [ true ↦ cut head t a | false ↦ a ] in Begins a.output r.output) [
+    elim (is_buffer_full a.sending) as (λ v. let r : Answering = elim v [ true ↦ cut head t a | false ↦ a ] in Begins a.output r.output) [
       | true ↦ cut_begins head t a
       | false ↦ same_begins a.output
     ]

@@ -7,7 +7,7 @@ use Rattle.cy_event.specs.declared.steps.Job.{Job}
 use Rattle.cy_event.specs.declared.steps.Job.TheVariants as job
 use Rattle.cy_event.specs.declared.steps.State.{State}
 use Rattle.cy_event.specs.declared.steps.State.TheVariants as state
-use Rattle.cy_event.specs.Callbacks.{Context, after_row, is_owed_to_listener, no_context, popped, with_listener, with_timeout}
+use Rattle.cy_event.specs.Callbacks.{Context, context_after_row, is_owed_to_listener, no_context, popped, with_listener, with_timeout}
 use Rattle.cy_event.specs.ReadyListeners.{ReadyListeners, after_begun, input_not_ready, no_listeners, output_not_ready, with_read_listener, with_write_listener}
 use Rattle.cy_event.specs.Table.{next_state, row}
 use Rattle.cy_model.specs.Marks.{Side, input_side, output_side, opened, ended, came, began, refused, called, started, parked, back, listened, timeout_set, read_listener_set, write_listener_set, not_ready, over, caused, broken, TakenUp, Trace}
@@ -205,7 +205,7 @@ timeout_by (Some r) = r.async_timeout
 abbrev pub after_call_at : ℕ → Call → Trace → Context → Context
 after_call_at t k T c =
     let l = ready_listeners T in
-    after_row (timeout_by (request_of T)) t l.read_set l.write_set (state_of T) (row (state_of T) k) c
+    context_after_row (timeout_by (request_of T)) t l.read_set l.write_set (state_of T) (row (state_of T) k) c
 
 -- a callback of a listener is no longer owed as it begins
 abbrev pub after_started : Bool → Context → Context

@@ -52,18 +52,18 @@ is_unbuilt_answering (error_answer status) = not (status == not_found_status)
 is_unbuilt_answering aborted = true
 is_unbuilt_answering m = false
 
-abbrev pub is_unbuilt : Mark → Bool
-is_unbuilt (began r) = is_unbuilt_request r
-is_unbuilt (called k part) = is_unbuilt_call k
-is_unbuilt (started j) = is_unbuilt_job j
-is_unbuilt (parked side) = true
-is_unbuilt (given n) = true
-is_unbuilt end_given = true
-is_unbuilt (caused k) = is_unbuilt_cause k
-is_unbuilt broken = true
-is_unbuilt m = is_unbuilt_asking m || is_unbuilt_answering m
+abbrev pub is_unbuilt_mark : Mark → Bool
+is_unbuilt_mark (began r) = is_unbuilt_request r
+is_unbuilt_mark (called k part) = is_unbuilt_call k
+is_unbuilt_mark (started j) = is_unbuilt_job j
+is_unbuilt_mark (parked side) = true
+is_unbuilt_mark (given n) = true
+is_unbuilt_mark end_given = true
+is_unbuilt_mark (caused k) = is_unbuilt_cause k
+is_unbuilt_mark broken = true
+is_unbuilt_mark m = is_unbuilt_asking m || is_unbuilt_answering m
 
 -- none of them stands in the trace
 abbrev pub NothingUnbuilt : Trace → Type 0
 NothingUnbuilt [] = Unit {0}
-NothingUnbuilt ((t, m) ∷ T) = (is_unbuilt m ≡ false) × NothingUnbuilt T
+NothingUnbuilt ((t, m) ∷ T) = (is_unbuilt_mark m ≡ false) × NothingUnbuilt T

@@ -5,7 +5,7 @@ use Rattle.std.specs.List.{list_all}
 use Rattle.cy_event.specs.Answers.{Answer, fresh_answer}
 use Rattle.cy_event.specs.Answering.{error_head}
 use Rattle.cy_event.specs.Heads.{Field}
-use Rattle.cy_respond.specs.Fields.{after_field, after_status, is_full, is_status, is_too_long, may_stand, with_field}
+use Rattle.cy_respond.specs.Fields.{after_field, after_status, has_most_fields, is_status, is_too_long, may_stand, with_field}
 use Rattle.cy_respond.proofs.ErrorFields.{plain_text_is_added}
 use Rattle.cy_respond.proofs.HeadEnds.{heads_end_once}
 use Rattle.cy_respond.proofs.LineLemmas.{stand_more}
@@ -37,10 +37,10 @@ field_added : (head : Answer) (f : Field) → MaySet head → MaySet (after_fiel
 field_added head f m =
     record {
       within = field_within head f m.within;
-      fields = elim (may_stand f && not (is_full head.fields) && not (is_too_long f head.fields)) as (λ v.
-          may_stand f && not (is_full head.fields) && not (is_too_long f head.fields) ≡ v
+      fields = elim (may_stand f && not (has_most_fields head.fields) && not (is_too_long f head.fields)) as (λ v.
+          may_stand f && not (has_most_fields head.fields) && not (is_too_long f head.fields) ≡ v
           → (let a : Answer = if v then with_field f head else head in list_all may_stand a.fields ≡ true)) [
-            | true ↦ λ taken. stand_more head.fields f m.fields (first_of (may_stand f) (not (is_full head.fields)) (not (is_too_long f head.fields)) taken)
+            | true ↦ λ taken. stand_more head.fields f m.fields (first_of (may_stand f) (not (has_most_fields head.fields)) (not (is_too_long f head.fields)) taken)
             | false ↦ λ refused. m.fields
           ] refl;
     }

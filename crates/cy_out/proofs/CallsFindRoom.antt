@@ -8,7 +8,7 @@ use Rattle.cy_event.specs.Answers.{Answer}
 use Rattle.cy_event.specs.AnswerModes.{void}
 use Rattle.cy_event.specs.Answering.{Answering, Commit, Sending, aborted, after_length, closing, with_length}
 use Rattle.cy_event.specs.Heads.{Field}
-use Rattle.cy_respond.specs.Fields.{after_field, after_status, field_size, is_full, is_status, is_too_long, may_stand, size_of, with_field}
+use Rattle.cy_respond.specs.Fields.{after_field, after_status, field_size, has_most_fields, is_status, is_too_long, may_stand, size_of_field, with_field}
 use Rattle.cy_out.specs.Calls.{Call, Change, UnderWay, aborts, adds_header, after_call, after_calls, begun, changed, changes, does, puts_error, resets, sets_close, sets_length, sets_status}
 use Rattle.cy_out.specs.Exchanges.{is_out}
 use Rattle.cy_out.specs.Kept.{finish_room}
@@ -30,7 +30,7 @@ status_within head status w =
       | false ↦ λ unknown. w
     ] refl
 
-size_of_both : (fields : List Field) (f : Field) → field_size (fields ++ f ∷ []) ≡ field_size fields + size_of f
+size_of_both : (fields : List Field) (f : Field) → field_size (fields ++ f ∷ []) ≡ field_size fields + size_of_field f
 size_of_both [] f = omega arith
 size_of_both (g ∷ fields) f = omega (arith, size_of_both fields f)
 
@@ -43,11 +43,11 @@ three false b c all = cc
 
 pub field_within : (head : Answer) (f : Field) → IsWithinLimits head → IsWithinLimits (after_field f head)
 field_within head f w =
-    elim (may_stand f && not (is_full head.fields) && not (is_too_long f head.fields)) as (λ v.
-    may_stand f && not (is_full head.fields) && not (is_too_long f head.fields) ≡ v → IsWithinLimits (if v then with_field f head else head)) [
-      | true ↦ λ taken. let both = three (may_stand f) (is_full head.fields) (is_too_long f head.fields) taken in
+    elim (may_stand f && not (has_most_fields head.fields) && not (is_too_long f head.fields)) as (λ v.
+    may_stand f && not (has_most_fields head.fields) && not (is_too_long f head.fields) ≡ v → IsWithinLimits (if v then with_field f head else head)) [
+      | true ↦ λ taken. let both = three (may_stand f) (has_most_fields head.fields) (is_too_long f head.fields) taken in
           let few : length head.fields < 100 = let not_full = both.0 in grind (arith, nat_tests) in
-          let short : field_size head.fields + size_of f ≤ 7000 = let not_long = both.1 in grind (arith, nat_tests) in
+          let short : field_size head.fields + size_of_field f ≤ 7000 = let not_long = both.1 in grind (arith, nat_tests) in
           record {
             status = w.status;
             count = omega (arith, length-append head.fields (f ∷ []));

@@ -14,7 +14,7 @@ use Rattle.cy_out.specs.Calls.{Call, Change, UnderWay, aborts, acted, adds_heade
 use Rattle.cy_out.specs.Exchanges.{Act, after_act, finished, flushes, is_out, marks_by, moment_of, receives, writes, written}
 use Rattle.cy_event.specs.AnswerBytes.{answer_bytes, known_length}
 use Rattle.cy_out.specs.Laws.{AbortedGainsNothing, AllCallsAreRead, AllCallsGoByTheLength, AllCallsMakeOneAnswer, AllCallsWriteWhatIsCut, IsOneAnswer, bytes_under_way, is_above, is_below, length_under_way, so_far_under_way}
-use Rattle.cy_event.specs.Pieces.{Mark, content_put, cut_pieces, is_cut_early, is_flush, pieces_behind, put, run_pieces}
+use Rattle.cy_event.specs.Pieces.{PutOrFlush, content_put, cut_pieces, is_cut_early, is_flush, pieces_behind, put, run_pieces}
 use Rattle.cy_out.proofs.ClientReading.{act_leaves, known_alike, known_is, more_by_both, pieces_are_read, says_size}
 use Rattle.cy_out.proofs.ContentSent.{Sends, act_sends, finish_sends, to_come}
 use Rattle.cy_out.proofs.CutsSoFar.{act_leaves_rest, all_pieces, few_wait, uncut}
@@ -44,7 +44,7 @@ record Settled : Type 0 where
   before : List ℕ
   pieces : List (List ℕ)
 
-abbrev settled_of : List ℕ → List Mark → UnderWay → Settled
+abbrev settled_of : List ℕ → List PutOrFlush → UnderWay → Settled
 settled_of before marks u = record { asked = (sending u).asked; set_length = u.set_length; before = before; pieces = pieces_behind [] marks }
 
 abbrev mode_by : ℕ → Settled → Mode
@@ -56,7 +56,7 @@ head_then_pieces u moment s =
     (s.before ++ head_of_shape u.head (shape_of s.asked u.head.status s.set_length) moment) ++ flat_map (piece_text (mode_by u.head.status s)) s.pieces
 
 -- with what is to come, if this happens, the bytes become these
-abbrev Promises : UnderWay → ℕ → List Mark → Settled → Type 0
+abbrev Promises : UnderWay → ℕ → List PutOrFlush → Settled → Type 0
 Promises u moment more s =
     (closing : Bool) × Sends (mode_by u.head.status s) closing u.exchange.received more (head_then_pieces u moment s) u.exchange.answering
 
@@ -71,7 +71,7 @@ pub record Out (before : List ℕ) (u : UnderWay) : Type 0 where
   moment : u.moment ≡ Some put_at
   pub early : is_cut_early [] u.marks ≡ true
   left : IsLeft u
-  promises : (more : List Mark) → Promises u put_at more (settled_of before (u.marks ++ more) u)
+  promises : (more : List PutOrFlush) → Promises u put_at more (settled_of before (u.marks ++ more) u)
 
 -- these bytes were written, and no more are
 record Stays (text : List ℕ) (u : UnderWay) : Type 0 where
@@ -334,7 +334,7 @@ abort_again before u g =
 -- ---- acts
 
 -- marks that are kept, since the answer isn't given up
-kept_marks : (given : Bool) (marks now : List Mark) → given ≡ false → (if given then marks else marks ++ now) ≡ marks ++ now
+kept_marks : (given : Bool) (marks now : List PutOrFlush) → given ≡ false → (if given then marks else marks ++ now) ≡ marks ++ now
 kept_marks given marks now kept = ap (λ (t : Bool). if t then marks else marks ++ now) kept
 
 unsent_left : (before : List ℕ) (u : UnderWay) → Unsent before u → IsLeft u
@@ -347,7 +347,7 @@ left_after act u kept is =
     let put_before = length (content_put u.marks) in
     let put_now = length (content_put now) in
     let size : put_before + put_now ≡ length (content_put (acted act u).marks)
-    = sym (ap (λ (ms : List Mark). length (content_put ms)) (kept_marks u.is_given_up u.marks now kept)
+    = sym (ap (λ (ms : List PutOrFlush). length (content_put ms)) (kept_marks u.is_given_up u.marks now kept)
     ∙ ap length (content_of_both u.marks now)
     ∙ length-append (content_put u.marks) (content_put now)) in
     is
@@ -372,7 +372,7 @@ no_flush : (a b : Bool) → a || b ≡ false → a ≡ false
 no_flush true b is = cc
 no_flush false b is = refl
 
-none_of_both : (marks now : List Mark) → list_any is_flush marks ≡ false → list_any is_flush (now ++ []) ≡ false → list_any is_flush (marks ++ now) ≡ false
+none_of_both : (marks now : List PutOrFlush) → list_any is_flush marks ≡ false → list_any is_flush (now ++ []) ≡ false → list_any is_flush (marks ++ now) ≡ false
 none_of_both marks now before here =
     flushes_in_both marks now
     ∙ (λ i. before i || list_any is_flush (sym (append-nil now) i))
@@ -414,7 +414,7 @@ has_moment before (flushes at) u w outside = refl
 has_moment before (receives n) u w outside = let never : true ≡ false = sym outside ∙ is_in u.exchange w.commit in cc
 
 -- the promise of the act is that of the answer
-act_promises : (before : List ℕ) (act : Act) (u : UnderWay) (more : List Mark) → Unsent before u → is_out (after_act u.head act u.exchange) ≡ true
+act_promises : (before : List ℕ) (act : Act) (u : UnderWay) (more : List PutOrFlush) → Unsent before u → is_out (after_act u.head act u.exchange) ≡ true
     → Promises (acted act u) (unwrap_or (moment_of act) 0) more (settled_of before ((acted act u).marks ++ more) (acted act u))
 act_promises before act u more w outside =
     let x = u.exchange in
@@ -426,7 +426,7 @@ act_promises before act u more w outside =
     let pieces = ap (λ (run : List ℕ). pieces_behind run (now ++ more)) w.content
     ∙ sym (one_run [] u.marks (now ++ more) w.unflushed)
     ∙ ap (pieces_behind []) (sym (append_assoc u.marks now more))
-    ∙ ap (λ (ms : List Mark). pieces_behind [] (ms ++ more)) (sym marks) in
+    ∙ ap (λ (ms : List PutOrFlush). pieces_behind [] (ms ++ more)) (sym marks) in
     let here : Settled = record {
       asked = (sending u).asked;
       set_length = set_length_of (sending u);
@@ -491,7 +491,7 @@ act_out before act u o =
       left = left_after act u o.kept o.left;
       promises = λ more. let p = o.promises (now ++ more) in
           let s = settled_of before (u.marks ++ (now ++ more)) u in
-          let pieces = ap (pieces_behind []) (sym (append_assoc u.marks now more) ∙ ap (λ (ms : List Mark). ms ++ more) (sym marks)) in
+          let pieces = ap (pieces_behind []) (sym (append_assoc u.marks now more) ∙ ap (λ (ms : List PutOrFlush). ms ++ more) (sym marks)) in
           let same : s ≡ settled_of before ((acted act u).marks ++ more) (acted act u)
           = λ i. record { asked = sym (act_keeps_asked u.head act x) i; set_length = u.set_length; before = before; pieces = pieces i } in
           subst (Promises (acted act u) o.put_at more) same
@@ -670,7 +670,7 @@ all_calls_go_by_the_length asked received output calls kept =
 -- What waits is what no cut has sent, and so it is with what happens then.
 record IsUncut (u : UnderWay) : Type 0 where
   few : length (sending u).waiting ≤ content_buffer
-  waits : (more : List Mark) → uncut (sending u).waiting more ≡ uncut [] (u.marks ++ more)
+  waits : (more : List PutOrFlush) → uncut (sending u).waiting more ≡ uncut [] (u.marks ++ more)
 
 change_uncut : (change : Change) (u : UnderWay) → IsUncut u → IsUncut (changed change u)
 change_uncut (sets_status status) u s = record { few = s.few; waits = s.waits }
@@ -694,12 +694,12 @@ act_uncut : (act : Act) (u : UnderWay) → u.is_given_up ≡ false → IsUncut u
 act_uncut act u kept s =
     let x = u.exchange in
     let now = marks_by u.head act x in
-    let after = λ (more : List Mark). act_leaves_rest u.head act more (uncut [] (u.marks ++ (now ++ more))) x (record { few = s.few; waits = s.waits (now ++ more) }) in
+    let after = λ (more : List PutOrFlush). act_leaves_rest u.head act more (uncut [] (u.marks ++ (now ++ more))) x (record { few = s.few; waits = s.waits (now ++ more) }) in
     record {
       few = (after []).few;
       waits = λ more. (after more).waits
           ∙ ap (uncut []) (sym (append_assoc u.marks now more))
-          ∙ ap (λ (ms : List Mark). uncut [] (ms ++ more)) (sym (kept_marks u.is_given_up u.marks now kept));
+          ∙ ap (λ (ms : List PutOrFlush). uncut [] (ms ++ more)) (sym (kept_marks u.is_given_up u.marks now kept));
     }
 
 close_uncut : (u : UnderWay) → IsUncut u → IsUncut (after_call sets_close u)

@@ -7,18 +7,18 @@ use Rattle.std.proofs.lemmas.List.{take-append-drop}
 use Rattle.std.proofs.lemmas.List.Concat.{flat_map-append}
 use Rattle.cy_event.specs.Answers.{Answer, content_buffer}
 use Rattle.cy_event.specs.AnswerModes.{Mode, last_text, piece_text}
-use Rattle.cy_event.specs.Answering.{Answering, Sending, Took, after_finish, can_cut, can_take, cut, has_to_cut, is_committed, is_empty, is_full, more_by, passes_length, push_byte, push_bytes, with_bytes, with_room}
+use Rattle.cy_event.specs.Answering.{Answering, Sending, Took, after_finish, can_cut, can_take, cut, has_to_cut, is_committed, is_empty, is_buffer_full, more_by, passes_length, push_byte, push_bytes, with_bytes, with_room}
 use Rattle.cy_out.specs.Exchanges.{Act, Exchange, after_act, after_acts, flushes, marks_by, marks_of, receives, writes, written}
 use Rattle.cy_out.specs.Laws.{PiecesFollowTheHead}
-use Rattle.cy_event.specs.Pieces.{Mark, flushed, pieces_behind, put, run_pieces}
+use Rattle.cy_event.specs.Pieces.{PutOrFlush, flushed, pieces_behind, put, run_pieces}
 use Rattle.cy_out.proofs.PieceLemmas.{full_behind, run_text}
 
 -- what is still to be written of the content, where this happens
-abbrev pub to_come : Mode → List Mark → Answering → List ℕ
+abbrev pub to_come : Mode → List PutOrFlush → Answering → List ℕ
 to_come mode marks a = flat_map (piece_text mode) (pieces_behind a.sending.waiting marks)
 
 -- The mode is settled, and with what is to come the bytes that were written become these.
-pub record Sends (mode : Mode) (closes : Bool) (got : List ℕ) (marks : List Mark) (bytes : List ℕ) (a : Answering) : Type 0 where
+pub record Sends (mode : Mode) (closes : Bool) (got : List ℕ) (marks : List PutOrFlush) (bytes : List ℕ) (a : Answering) : Type 0 where
   pub commit : a.sending.commit ≡ Some (record { mode = mode; closes = closes })
   pub few : length a.sending.waiting ≤ content_buffer
   pub all : (got ++ a.output) ++ to_come mode marks a ≡ bytes
@@ -39,14 +39,14 @@ regroup got output piece more =
 
 -- ---- cuts
 
-pub full_is : (s : Sending) → is_full s ≡ true → length s.waiting ≤ content_buffer → length s.waiting ≡ content_buffer
+pub full_is : (s : Sending) → is_buffer_full s ≡ true → length s.waiting ≤ content_buffer → length s.waiting ≡ content_buffer
 full_is s full few = grind (arith, nat_tests)
 
-pub room_is : (s : Sending) → is_full s ≡ false → length s.waiting < content_buffer
+pub room_is : (s : Sending) → is_buffer_full s ≡ false → length s.waiting < content_buffer
 room_is s room = grind (arith, nat_tests)
 
 -- a full buffer is cut behind its last byte, where one more comes
-pub full_cut_sends : (head : Answer) (at b : ℕ) (mode : Mode) (closes : Bool) (got : List ℕ) (marks : List Mark) (bytes : List ℕ) (a : Answering)
+pub full_cut_sends : (head : Answer) (at b : ℕ) (mode : Mode) (closes : Bool) (got : List ℕ) (marks : List PutOrFlush) (bytes : List ℕ) (a : Answering)
     → length a.sending.waiting ≡ content_buffer
     → Sends mode closes got (put (b ∷ []) ∷ marks) bytes a → Sends mode closes got (put (b ∷ []) ∷ marks) bytes (cut head at a)
 full_cut_sends head at b mode closes got marks bytes a full sends =
@@ -57,7 +57,7 @@ full_cut_sends head at b mode closes got marks bytes a full sends =
     (record { commit = refl; few = omega arith; all = regroup got a.output (piece_text mode waiting) more ∙ pieces ∙ sends.all })
 
 -- a flush cuts what waits
-pub flush_sends : (head : Answer) (at : ℕ) (mode : Mode) (closes : Bool) (got : List ℕ) (marks : List Mark) (bytes : List ℕ) (a : Answering)
+pub flush_sends : (head : Answer) (at : ℕ) (mode : Mode) (closes : Bool) (got : List ℕ) (marks : List PutOrFlush) (bytes : List ℕ) (a : Answering)
     → Sends mode closes got (flushed ∷ marks) bytes a → Sends mode closes got marks bytes (cut head at a)
 flush_sends head at mode closes got marks bytes a sends =
     let waiting = a.sending.waiting in
@@ -70,37 +70,37 @@ flush_sends head at mode closes got marks bytes a sends =
 -- ---- writes
 
 -- and the buffer has room
-record SendsWithRoom (mode : Mode) (closes : Bool) (got : List ℕ) (marks : List Mark) (bytes : List ℕ) (a : Answering) : Type 0 where
+record SendsWithRoom (mode : Mode) (closes : Bool) (got : List ℕ) (marks : List PutOrFlush) (bytes : List ℕ) (a : Answering) : Type 0 where
   sends : Sends mode closes got marks bytes a
   room : length a.sending.waiting < content_buffer
 
-room_sends : (head : Answer) (at b : ℕ) (mode : Mode) (closes : Bool) (got : List ℕ) (marks : List Mark) (bytes : List ℕ) (a : Answering)
+room_sends : (head : Answer) (at b : ℕ) (mode : Mode) (closes : Bool) (got : List ℕ) (marks : List PutOrFlush) (bytes : List ℕ) (a : Answering)
     → Sends mode closes got (put (b ∷ []) ∷ marks) bytes a → SendsWithRoom mode closes got (put (b ∷ []) ∷ marks) bytes (with_room head at a)
 room_sends head at b mode closes got marks bytes a sends =
-    elim (is_full a.sending) as (λ v. is_full a.sending ≡ v → SendsWithRoom mode closes got (put (b ∷ []) ∷ marks) bytes (elim v [ true ↦ cut head at a | false ↦ a ])) [
+    elim (is_buffer_full a.sending) as (λ v. is_buffer_full a.sending ≡ v → SendsWithRoom mode closes got (put (b ∷ []) ∷ marks) bytes (elim v [ true ↦ cut head at a | false ↦ a ])) [
       | true ↦ λ full. record { sends = full_cut_sends head at b mode closes got marks bytes a (full_is a.sending full sends.few) sends; room = omega arith }
       | false ↦ λ room. record { sends = sends; room = room_is a.sending room }
     ] refl
 
 -- the byte joins what waits
-pub joins : (b : ℕ) (mode : Mode) (closes : Bool) (got : List ℕ) (marks : List Mark) (bytes : List ℕ) (a : Answering)
+pub joins : (b : ℕ) (mode : Mode) (closes : Bool) (got : List ℕ) (marks : List PutOrFlush) (bytes : List ℕ) (a : Answering)
     → length a.sending.waiting < content_buffer
     → Sends mode closes got (put (b ∷ []) ∷ marks) bytes a → Sends mode closes got marks bytes (record a { sending = with_bytes (b ∷ []) a.sending })
 joins b mode closes got marks bytes a room sends =
     record { commit = sends.commit; few = omega (arith, length-append a.sending.waiting (b ∷ [])); all = sends.all }
 
-byte_sends : (head : Answer) (at b : ℕ) (mode : Mode) (closes : Bool) (got : List ℕ) (marks : List Mark) (bytes : List ℕ) (a : Answering)
+byte_sends : (head : Answer) (at b : ℕ) (mode : Mode) (closes : Bool) (got : List ℕ) (marks : List PutOrFlush) (bytes : List ℕ) (a : Answering)
     → Sends mode closes got (put (b ∷ []) ∷ marks) bytes a → Sends mode closes got marks bytes (push_byte head at b a)
 byte_sends head at b mode closes got marks bytes a sends =
     let roomy = room_sends head at b mode closes got marks bytes a sends in
     joins b mode closes got marks bytes (with_room head at a) roomy.room roomy.sends
 
 -- nothing put changes nothing
-pub none_put : (run : List ℕ) (marks : List Mark) → pieces_behind run (put [] ∷ marks) ≡ pieces_behind run marks
+pub none_put : (run : List ℕ) (marks : List PutOrFlush) → pieces_behind run (put [] ∷ marks) ≡ pieces_behind run marks
 none_put run marks = ap (λ (r : List ℕ). pieces_behind r marks) (append-nil run)
 
 -- bytes are put one after another
-pub one_then_more : (run : List ℕ) (b n : ℕ) (more : List ℕ) (marks : List Mark)
+pub one_then_more : (run : List ℕ) (b n : ℕ) (more : List ℕ) (marks : List PutOrFlush)
     → pieces_behind run (put (take (1 + n) (b ∷ more)) ∷ marks) ≡ pieces_behind run (put (b ∷ []) ∷ (put (take n more) ∷ marks))
 one_then_more run b n more marks =
     let up : 1 + n ≡ suc n = omega arith in
@@ -108,13 +108,13 @@ one_then_more run b n more marks =
     ∙ ap (λ (r : List ℕ). pieces_behind r marks) (sym (append_assoc run (b ∷ []) (take n more)))
 
 -- other marks with which the same pieces come
-pub by_marks : (mode : Mode) (closes : Bool) (got : List ℕ) (marks others : List Mark) (bytes : List ℕ) (a : Answering)
+pub by_marks : (mode : Mode) (closes : Bool) (got : List ℕ) (marks others : List PutOrFlush) (bytes : List ℕ) (a : Answering)
     → pieces_behind a.sending.waiting marks ≡ pieces_behind a.sending.waiting others
     → Sends mode closes got marks bytes a → Sends mode closes got others bytes a
 by_marks mode closes got marks others bytes a same sends =
     record { commit = sends.commit; few = sends.few; all = ap (λ (ps : List (List ℕ)). (got ++ a.output) ++ flat_map (piece_text mode) ps) (sym same) ∙ sends.all }
 
-pub push_sends : (head : Answer) (at : ℕ) (more : List ℕ) (mode : Mode) (closes : Bool) (got : List ℕ) (marks : List Mark) (bytes : List ℕ) (a : Answering)
+pub push_sends : (head : Answer) (at : ℕ) (more : List ℕ) (mode : Mode) (closes : Bool) (got : List ℕ) (marks : List PutOrFlush) (bytes : List ℕ) (a : Answering)
     → Sends mode closes got (put (take (push_bytes head at more a).count more) ∷ marks) bytes a
     → Sends mode closes got marks bytes (push_bytes head at more a).after
 push_sends head at [] mode closes got marks bytes a sends = by_marks mode closes got (put [] ∷ marks) marks bytes a (none_put a.sending.waiting marks) sends
@@ -137,14 +137,14 @@ nothing_waits true (b ∷ waiting) idle = cc
 nothing_waits false (b ∷ waiting) idle = cc
 
 -- a flush of nothing adds no piece
-idle_flush : (run : List ℕ) (marks : List Mark) → run ≡ [] → pieces_behind run (flushed ∷ marks) ≡ pieces_behind run marks
+idle_flush : (run : List ℕ) (marks : List PutOrFlush) → run ≡ [] → pieces_behind run (flushed ∷ marks) ≡ pieces_behind run marks
 idle_flush run marks none = ap (λ (r : List ℕ). pieces_behind r (flushed ∷ marks)) none ∙ sym (ap (λ (r : List ℕ). pieces_behind r marks) none)
 
 -- the client takes some of what waits
 pub received_more : (got output : List ℕ) (n : ℕ) → (got ++ take n output) ++ drop n output ≡ got ++ output
 received_more got output n = append_assoc got (take n output) (drop n output) ∙ ap (λ (xs : List ℕ). got ++ xs) (take-append-drop n output)
 
-pub act_sends : (head : Answer) (act : Act) (mode : Mode) (closes : Bool) (marks : List Mark) (bytes : List ℕ) (x : Exchange)
+pub act_sends : (head : Answer) (act : Act) (mode : Mode) (closes : Bool) (marks : List PutOrFlush) (bytes : List ℕ) (x : Exchange)
     → Sends mode closes x.received (marks_by head act x ++ marks) bytes x.answering
     → Sends mode closes (after_act head act x).received marks bytes (after_act head act x).answering
 act_sends head (writes more at) mode closes marks bytes x there =

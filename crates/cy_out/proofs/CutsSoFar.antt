@@ -4,9 +4,9 @@ use Rattle.std.specs.Prelude.{not, ◌&&◌, if◌then◌else◌}
 use Rattle.std.proofs.lemmas.List.{drop-drop, length-drop}
 use Rattle.std.proofs.Math.Seq.{drop-append-add}
 use Rattle.cy_event.specs.Answers.{Answer, content_buffer}
-use Rattle.cy_event.specs.Answering.{Answering, Took, can_cut, can_take, cut, has_to_cut, is_committed, is_full, more_by, passes_length, push_byte, push_bytes, with_room}
+use Rattle.cy_event.specs.Answering.{Answering, Took, can_cut, can_take, cut, has_to_cut, is_committed, is_buffer_full, more_by, passes_length, push_byte, push_bytes, with_room}
 use Rattle.cy_out.specs.Exchanges.{Act, Exchange, after_act, flushes, marks_by, receives, writes}
-use Rattle.cy_event.specs.Pieces.{Mark, cut_pieces, first_pieces, flushed, piece_count, pieces_behind, put, run_pieces}
+use Rattle.cy_event.specs.Pieces.{PutOrFlush, cut_pieces, first_pieces, flushed, piece_count, pieces_behind, put, run_pieces}
 use Rattle.cy_out.proofs.ContentSent.{full_is, nothing_waits, room_is}
 
 -- the last piece of a run, which no cut has sent
@@ -14,7 +14,7 @@ abbrev last_piece : List ℕ → List ℕ
 last_piece run = drop ((piece_count (length run) - 1) * content_buffer) run
 
 -- what waits, where this run stands behind the last flush
-abbrev pub uncut : List ℕ → List Mark → List ℕ
+abbrev pub uncut : List ℕ → List PutOrFlush → List ℕ
 uncut run [] = last_piece run
 uncut run (put bytes ∷ marks) = uncut (run ++ bytes) marks
 uncut run (flushed ∷ marks) = uncut [] marks
@@ -28,7 +28,7 @@ few_wait run few =
     ap (λ (n : ℕ). drop n run) none
 
 -- 8,192 bytes in front of others don't wait
-full_goes : (front : List ℕ) (b : ℕ) (run : List ℕ) (marks : List Mark) → length front ≡ content_buffer → uncut (front ++ (b ∷ run)) marks ≡ uncut (b ∷ run) marks
+full_goes : (front : List ℕ) (b : ℕ) (run : List ℕ) (marks : List PutOrFlush) → length front ≡ content_buffer → uncut (front ++ (b ∷ run)) marks ≡ uncut (b ∷ run) marks
 full_goes front b run [] full =
     let place : (piece_count (length (front ++ (b ∷ run))) - 1) * content_buffer ≡ length front + (piece_count (length (b ∷ run)) - 1) * content_buffer
     = omega (arith, length-append front (b ∷ run)) in
@@ -54,7 +54,7 @@ run_split [] = refl
 run_split (b ∷ run) = first_split (piece_count (length (b ∷ run)) - 1) (b ∷ run) (omega arith)
 
 -- all pieces are those that are cut, and that of what waits
-pub all_pieces : (run : List ℕ) (marks : List Mark) → pieces_behind run marks ≡ cut_pieces run marks ++ run_pieces (uncut run marks)
+pub all_pieces : (run : List ℕ) (marks : List PutOrFlush) → pieces_behind run marks ≡ cut_pieces run marks ++ run_pieces (uncut run marks)
 all_pieces run [] = run_split run
 all_pieces run (put bytes ∷ marks) = all_pieces (run ++ bytes) marks
 all_pieces run (flushed ∷ marks) =
@@ -64,18 +64,18 @@ all_pieces run (flushed ∷ marks) =
 -- ---- cuts
 
 -- With what happens then, this is what waits in the end.
-pub record Leaves (marks : List Mark) (rest : List ℕ) (a : Answering) : Type 0 where
+pub record Leaves (marks : List PutOrFlush) (rest : List ℕ) (a : Answering) : Type 0 where
   pub few : length a.sending.waiting ≤ content_buffer
   pub waits : uncut a.sending.waiting marks ≡ rest
 
-record LeavesWithRoom (marks : List Mark) (rest : List ℕ) (a : Answering) : Type 0 where
+record LeavesWithRoom (marks : List PutOrFlush) (rest : List ℕ) (a : Answering) : Type 0 where
   leaves : Leaves marks rest a
   room : length a.sending.waiting < content_buffer
 
-room_leaves : (head : Answer) (at b : ℕ) (marks : List Mark) (rest : List ℕ) (a : Answering)
+room_leaves : (head : Answer) (at b : ℕ) (marks : List PutOrFlush) (rest : List ℕ) (a : Answering)
     → Leaves (put (b ∷ []) ∷ marks) rest a → LeavesWithRoom (put (b ∷ []) ∷ marks) rest (with_room head at a)
 room_leaves head at b marks rest a l =
-    elim (is_full a.sending) as (λ v. is_full a.sending ≡ v → LeavesWithRoom (put (b ∷ []) ∷ marks) rest (elim v [ true ↦ cut head at a | false ↦ a ])) [
+    elim (is_buffer_full a.sending) as (λ v. is_buffer_full a.sending ≡ v → LeavesWithRoom (put (b ∷ []) ∷ marks) rest (elim v [ true ↦ cut head at a | false ↦ a ])) [
       | true ↦ λ full. record {
         leaves = record { few = omega arith; waits = sym (full_goes a.sending.waiting b [] marks (full_is a.sending full l.few)) ∙ l.waits };
         room = omega arith;
@@ -83,7 +83,7 @@ room_leaves head at b marks rest a l =
       | false ↦ λ room. record { leaves = l; room = room_is a.sending room }
     ] refl
 
-byte_leaves : (head : Answer) (at b : ℕ) (marks : List Mark) (rest : List ℕ) (a : Answering)
+byte_leaves : (head : Answer) (at b : ℕ) (marks : List PutOrFlush) (rest : List ℕ) (a : Answering)
     → Leaves (put (b ∷ []) ∷ marks) rest a → Leaves marks rest (push_byte head at b a)
 byte_leaves head at b marks rest a l =
     let roomy = room_leaves head at b marks rest a l in
@@ -95,21 +95,21 @@ byte_leaves head at b marks rest a l =
 -- ---- writes
 
 -- other marks that leave the same
-by_others : (marks others : List Mark) (rest : List ℕ) (a : Answering) → uncut a.sending.waiting marks ≡ uncut a.sending.waiting others
+by_others : (marks others : List PutOrFlush) (rest : List ℕ) (a : Answering) → uncut a.sending.waiting marks ≡ uncut a.sending.waiting others
     → Leaves marks rest a → Leaves others rest a
 by_others marks others rest a same l = record { few = l.few; waits = sym same ∙ l.waits }
 
-none_put : (run : List ℕ) (marks : List Mark) → uncut run (put [] ∷ marks) ≡ uncut run marks
+none_put : (run : List ℕ) (marks : List PutOrFlush) → uncut run (put [] ∷ marks) ≡ uncut run marks
 none_put run marks = ap (λ (r : List ℕ). uncut r marks) (append-nil run)
 
-one_then_more : (run : List ℕ) (b n : ℕ) (more : List ℕ) (marks : List Mark)
+one_then_more : (run : List ℕ) (b n : ℕ) (more : List ℕ) (marks : List PutOrFlush)
     → uncut run (put (take (1 + n) (b ∷ more)) ∷ marks) ≡ uncut run (put (b ∷ []) ∷ (put (take n more) ∷ marks))
 one_then_more run b n more marks =
     let up : 1 + n ≡ suc n = omega arith in
     ap (λ (m : ℕ). uncut (run ++ take m (b ∷ more)) marks) up
     ∙ ap (λ (r : List ℕ). uncut r marks) (sym (append_assoc run (b ∷ []) (take n more)))
 
-push_leaves : (head : Answer) (at : ℕ) (more : List ℕ) (marks : List Mark) (rest : List ℕ) (a : Answering)
+push_leaves : (head : Answer) (at : ℕ) (more : List ℕ) (marks : List PutOrFlush) (rest : List ℕ) (a : Answering)
     → Leaves (put (take (push_bytes head at more a).count more) ∷ marks) rest a → Leaves marks rest (push_bytes head at more a).after
 push_leaves head at [] marks rest a l = by_others (put [] ∷ marks) marks rest a (none_put a.sending.waiting marks) l
 push_leaves head at (b ∷ more) marks rest a there =
@@ -125,10 +125,10 @@ push_leaves head at (b ∷ more) marks rest a there =
 
 -- ---- acts
 
-idle_flush : (run : List ℕ) (marks : List Mark) → run ≡ [] → uncut run (flushed ∷ marks) ≡ uncut run marks
+idle_flush : (run : List ℕ) (marks : List PutOrFlush) → run ≡ [] → uncut run (flushed ∷ marks) ≡ uncut run marks
 idle_flush run marks none = sym (ap (λ (r : List ℕ). uncut r marks) none)
 
-pub act_leaves_rest : (head : Answer) (act : Act) (marks : List Mark) (rest : List ℕ) (x : Exchange)
+pub act_leaves_rest : (head : Answer) (act : Act) (marks : List PutOrFlush) (rest : List ℕ) (x : Exchange)
     → Leaves (marks_by head act x ++ marks) rest x.answering → Leaves marks rest (after_act head act x).answering
 act_leaves_rest head (writes more at) marks rest x there =
     let a = x.answering in

@@ -3,11 +3,11 @@ use Rattle.std.proofs.Common.{◌≡◌, ℕ, ◌+◌, ◌≤◌, Bool, true, fa
 use Rattle.std.specs.Prelude.{not, ◌&&◌, ◌||◌, ◌==◌, if◌then◌else◌, is_none}
 use Rattle.cy_event.specs.Answers.{Answer, content_buffer}
 use Rattle.cy_event.specs.AnswerModes.{framing_lines, has_no_content, head_of_shape, shape_of}
-use Rattle.cy_event.specs.Answering.{Answering, Commit, Took, can_cut, can_take, commit_by, cut, has_to_cut, is_committed, is_empty, is_full, more_by, passes_length, push_byte, push_bytes, set_length_of}
+use Rattle.cy_event.specs.Answering.{Answering, Commit, Took, can_cut, can_take, commit_by, cut, has_to_cut, is_committed, is_empty, is_buffer_full, more_by, passes_length, push_byte, push_bytes, set_length_of}
 use Rattle.cy_out.specs.Exchanges.{Act, Exchange, after_act, flushes, head_moment, is_out, marks_by, marks_of, receives, writes}
 use Rattle.cy_event.specs.AnswerBytes.{known_length}
 use Rattle.cy_out.specs.Laws.{HeadIsFramedAsGet, asked_by, head_length}
-use Rattle.cy_event.specs.Pieces.{Mark, content_put, put}
+use Rattle.cy_event.specs.Pieces.{PutOrFlush, content_put, put}
 use Rattle.cy_out.proofs.ContentSent.{room_is}
 use Rattle.cy_out.proofs.Pushes.{filled, push_into_room, push_none, push_one}
 use Rattle.cy_out.proofs.WholeAnswers.{began, has_gone, is_in, moment_is, start_of, starts, waiting_act, waits}
@@ -28,7 +28,7 @@ cut_commits head at a =
 
 byte_keeps : (head : Answer) (at b : ℕ) (a : Answering) → is_committed a.sending ≡ true → is_committed (push_byte head at b a).sending ≡ true
 byte_keeps head at b a out =
-    elim (is_full a.sending) as (λ v. is_committed (elim v as (λ _. Answering) [ true ↦ cut head at a | false ↦ a ]).sending ≡ true) [
+    elim (is_buffer_full a.sending) as (λ v. is_committed (elim v as (λ _. Answering) [ true ↦ cut head at a | false ↦ a ]).sending ≡ true) [
       | true ↦ cut_commits head at a
       | false ↦ out
     ]
@@ -44,7 +44,7 @@ push_keeps head at (b ∷ bytes) a out =
     ]
 
 -- a full buffer is cut before a byte that is taken
-full_commits : (head : Answer) (at b : ℕ) (bytes : List ℕ) (a : Answering) → is_full a.sending ≡ true → can_cut a.output ≡ true
+full_commits : (head : Answer) (at b : ℕ) (bytes : List ℕ) (a : Answering) → is_buffer_full a.sending ≡ true → can_cut a.output ≡ true
     → is_committed (push_bytes head at (b ∷ bytes) a).after.sending ≡ true
 full_commits head at b bytes a full room =
     let takes : can_take a ≡ true = (λ i. not (full i) || room i) in
@@ -67,7 +67,7 @@ data PushedAlike (head : Answer) (at : ℕ) (bytes : List ℕ) (a : Answering) :
 pushed_alike : (head : Answer) (at : ℕ) (bytes : List ℕ) (a : Answering) → a.sending.commit ≡ None → PushedAlike head at bytes a
 pushed_alike head at [] a given = both_kept 0 a given (λ m. refl)
 pushed_alike head at (b ∷ bytes) a given =
-    elim (is_full a.sending) as (λ v. is_full a.sending ≡ v → PushedAlike head at (b ∷ bytes) a) [
+    elim (is_buffer_full a.sending) as (λ v. is_buffer_full a.sending ≡ v → PushedAlike head at (b ∷ bytes) a) [
       | true ↦ λ full. elim (can_cut a.output) as (λ v. can_cut a.output ≡ v → PushedAlike head at (b ∷ bytes) a) [
         | true ↦ λ room. both_cut (λ m. full_commits head at b bytes (by m a) full room)
         | false ↦ λ stuck. let none : can_take a ≡ false = (λ i. not (full i) || stuck i) in
@@ -84,7 +84,7 @@ pushed_alike head at (b ∷ bytes) a given =
 -- with HEAD and without, the head goes out, or the same comes of the act, which does the same with the content
 pub data ActsAlike (head : Answer) (act : Act) (x : Exchange) : Type 0 where
   both_out : ((m : Bool) → is_out (after_act head act (asked_by m x)) ≡ true) → ActsAlike head act x
-  both_in : (next : Exchange) (now : List Mark) → next.answering.sending.commit ≡ None
+  both_in : (next : Exchange) (now : List PutOrFlush) → next.answering.sending.commit ≡ None
       → ((m : Bool) → after_act head act (asked_by m x) ≡ asked_by m next)
       → ((m : Bool) → marks_by head act (asked_by m x) ≡ now) → ActsAlike head act x
 
@@ -92,7 +92,7 @@ pub acts_alike : (head : Answer) (act : Act) (x : Exchange) → x.answering.send
 acts_alike head (writes bytes at) x given =
     let a = x.answering in
     let written_by : Bool → Bool → Exchange = λ v m. record { received = x.received; answering = if v then by m a else (push_bytes head at bytes (by m a)).after } in
-    let marked_by : Bool → Bool → List Mark = λ v m. put (if v then [] else take (push_bytes head at bytes (by m a)).count bytes) ∷ [] in
+    let marked_by : Bool → Bool → List PutOrFlush = λ v m. put (if v then [] else take (push_bytes head at bytes (by m a)).count bytes) ∷ [] in
     elim (passes_length a.sending (length bytes)) as (λ v. passes_length a.sending (length bytes) ≡ v → ActsAlike head (writes bytes at) x) [
       | true ↦ λ passes. both_in x (put [] ∷ []) given (λ m. ap (λ (v : Bool). written_by v m) passes) (λ m. ap (λ (v : Bool). marked_by v m) passes)
       | false ↦ λ fits. elim (pushed_alike head at bytes a given) as (λ _. ActsAlike head (writes bytes at) x) [

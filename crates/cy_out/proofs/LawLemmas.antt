@@ -5,7 +5,7 @@ use Rattle.std.proofs.lemmas.Bool.Decides.{nat_tests}
 use Rattle.std.proofs.lemmas.List.{append-nil}
 use Rattle.cy_event.specs.Answers.{Answer, close, keep_alive, silent}
 use Rattle.cy_event.specs.AnswerModes.{chunked, closes, connection_of, content_mode, counted, has_no_content, mode_of, until_close, void}
-use Rattle.cy_event.specs.Answering.{Answering, Sending, Took, aborted, after_finish, can_cut, can_take, cut, cut_room, has_to_cut, is_committed, is_full, more_by, output_limit, passes_length, push_byte, push_bytes, with_room}
+use Rattle.cy_event.specs.Answering.{Answering, Sending, Took, aborted, after_finish, can_cut, can_take, cut, cut_room, has_to_cut, is_committed, is_buffer_full, more_by, output_limit, passes_length, push_byte, push_bytes, with_room}
 use Rattle.cy_out.specs.Exchanges.{Act, Exchange, after_act, flushes, receives, writes}
 use Rattle.cy_out.specs.Laws.{ClosesAreSaid, CutsFindRoom, HeadsSayTheMode, IsGreatest, NoContentIsUnframed, WritesTakeTheMost, says_close}
 use Rattle.cy_out.proofs.ContentSent.{received_more}
@@ -26,7 +26,7 @@ greatest_more head at b bytes a count takes later =
     let up : 1 + count ≡ suc count = omega arith in
     subst (IsGreatest head at (b ∷ bytes) a) (sym up) (record {
       within = omega (arith, later.within);
-      taken = (room_where_full (is_full a.sending) a.output takes, later.taken);
+      taken = (room_where_full (is_buffer_full a.sending) a.output takes, later.taken);
       greatest = fewer;
     })
   where
@@ -39,7 +39,7 @@ greatest_none head at b bytes a stuck = record { within = omega arith; taken = t
   where
     fewer : (n : ℕ) → n ≤ length (b ∷ bytes) → CutsFindRoom head at (take n (b ∷ bytes)) a → n ≤ 0
     fewer zero inside found = omega arith
-    fewer (suc n) inside found = absurd (none_where_full (is_full a.sending) a.output stuck found.0)
+    fewer (suc n) inside found = absurd (none_where_full (is_buffer_full a.sending) a.output stuck found.0)
 
 pub writes_take_the_most : WritesTakeTheMost
 writes_take_the_most head at [] a = record { within = omega arith; taken = tt; greatest = λ n inside found. inside }
@@ -78,7 +78,7 @@ cut_stays head at closes got bytes a stays =
 
 room_stays : (head : Answer) (at : ℕ) (closes : Bool) (got bytes : List ℕ) (a : Answering) → StaysVoid closes got bytes a → StaysVoid closes got bytes (with_room head at a)
 room_stays head at closes got bytes a stays =
-    elim (is_full a.sending) as (λ v. StaysVoid closes got bytes (elim v [ true ↦ cut head at a | false ↦ a ])) [
+    elim (is_buffer_full a.sending) as (λ v. StaysVoid closes got bytes (elim v [ true ↦ cut head at a | false ↦ a ])) [
       | true ↦ cut_stays head at closes got bytes a stays
       | false ↦ stays
     ]

@@ -5,13 +5,13 @@ use Rattle.std.specs.List.{list_any}
 use Rattle.std.proofs.lemmas.Bool.Decides.{nat_tests}
 use Rattle.cy_event.specs.Answers.{Answer, content_buffer}
 use Rattle.cy_event.specs.AnswerModes.{head_of_shape, shape_of, void}
-use Rattle.cy_event.specs.Answering.{Answering, Sending, Took, aborted, can_cut, can_take, commit_by, cut, has_to_cut, is_full, more_by, passes_length, push_byte, push_bytes, set_length_of, with_head}
+use Rattle.cy_event.specs.Answering.{Answering, Sending, Took, aborted, can_cut, can_take, commit_by, cut, has_to_cut, is_buffer_full, more_by, passes_length, push_byte, push_bytes, set_length_of, with_head}
 use Rattle.cy_out.specs.Exchanges.{Act, Exchange, after_act, flushes, receives, writes}
-use Rattle.cy_event.specs.Pieces.{Mark, content_put, flushed, is_cut_early, is_flush, pieces_behind, put}
+use Rattle.cy_event.specs.Pieces.{PutOrFlush, content_put, flushed, is_cut_early, is_flush, pieces_behind, put}
 
 -- ---- marks
 
-pub content_of_both : (marks others : List Mark) → content_put (marks ++ others) ≡ content_put marks ++ content_put others
+pub content_of_both : (marks others : List PutOrFlush) → content_put (marks ++ others) ≡ content_put marks ++ content_put others
 content_of_both [] others = refl
 content_of_both (put bytes ∷ marks) others =
     ap (λ (xs : List ℕ). bytes ++ xs) (content_of_both marks others) ∙ sym (append_assoc bytes (content_put marks) (content_put others))
@@ -21,13 +21,13 @@ or_assoc : (a b c : Bool) → a || (b || c) ≡ (a || b) || c
 or_assoc true b c = refl
 or_assoc false b c = refl
 
-pub flushes_in_both : (marks others : List Mark) → list_any is_flush (marks ++ others) ≡ list_any is_flush marks || list_any is_flush others
+pub flushes_in_both : (marks others : List PutOrFlush) → list_any is_flush (marks ++ others) ≡ list_any is_flush marks || list_any is_flush others
 flushes_in_both [] others = refl
 flushes_in_both (mark ∷ marks) others =
     ap (λ (t : Bool). is_flush mark || t) (flushes_in_both marks others) ∙ or_assoc (is_flush mark) (list_any is_flush marks) (list_any is_flush others)
 
 -- what no flush divides is one run
-pub one_run : (run : List ℕ) (marks later : List Mark) → list_any is_flush marks ≡ false
+pub one_run : (run : List ℕ) (marks later : List PutOrFlush) → list_any is_flush marks ≡ false
     → pieces_behind run (marks ++ later) ≡ pieces_behind (run ++ content_put marks) later
 one_run run [] later unflushed = ap (λ (r : List ℕ). pieces_behind r later) (sym (append-nil run))
 one_run run (put bytes ∷ marks) later unflushed =
@@ -35,7 +35,7 @@ one_run run (put bytes ∷ marks) later unflushed =
 one_run run (flushed ∷ marks) later unflushed = cc
 
 -- what is cut early stays so
-pub early_stays : (marks later : List Mark) → is_cut_early [] marks ≡ true → is_cut_early [] (marks ++ later) ≡ true
+pub early_stays : (marks later : List PutOrFlush) → is_cut_early [] marks ≡ true → is_cut_early [] (marks ++ later) ≡ true
 early_stays marks later early =
     (λ i. flushes_in_both marks later i || nat_lt content_buffer (length (content_of_both marks later i)))
     ∙ (λ i. (list_any is_flush marks || list_any is_flush later) || nat_lt content_buffer (length-append (content_put marks) (content_put later) i))
@@ -67,7 +67,7 @@ cut_keeps_asked head at a = head_keeps_asked head at (set_length_of a.sending) a
 
 byte_keeps_asked : (head : Answer) (at b : ℕ) (a : Answering) → (push_byte head at b a).sending.asked ≡ a.sending.asked
 byte_keeps_asked head at b a =
-    elim (is_full a.sending) as (λ v. let x : Answering = elim v [ true ↦ cut head at a | false ↦ a ] in x.sending.asked ≡ a.sending.asked) [
+    elim (is_buffer_full a.sending) as (λ v. let x : Answering = elim v [ true ↦ cut head at a | false ↦ a ] in x.sending.asked ≡ a.sending.asked) [
       | true ↦ cut_keeps_asked head at a
       | false ↦ refl
     ]

@@ -8,7 +8,7 @@ use Rattle.std.proofs.lemmas.List.Folds.{concat-append}
 use Rattle.std.proofs.Math.Seq.{take-append-add}
 use Rattle.cy_event.specs.Answers.{content_buffer}
 use Rattle.cy_out.specs.Laws.{PiecesEndAtCuts}
-use Rattle.cy_event.specs.Pieces.{EndsAt, IsCut, IsRunCut, Mark, first_pieces, flushed, piece_count, pieces_behind, put, run_pieces, runs_behind}
+use Rattle.cy_event.specs.Pieces.{EndsAt, IsCut, IsRunCut, PutOrFlush, first_pieces, flushed, piece_count, pieces_behind, put, run_pieces, runs_behind}
 use Rattle.cy_out.proofs.PieceLemmas.{run_holds}
 
 -- ---- the ends in a run
@@ -142,7 +142,7 @@ cut_ends (first ∷ before) run behind inside cut =
 
 -- ---- the law
 
-by_runs : (run : List ℕ) (marks : List Mark) → pieces_behind run marks ≡ flat_map run_pieces (runs_behind run marks)
+by_runs : (run : List ℕ) (marks : List PutOrFlush) → pieces_behind run marks ≡ flat_map run_pieces (runs_behind run marks)
 by_runs run [] = sym (append-nil (run_pieces run))
 by_runs run (put bytes ∷ marks) = by_runs (run ++ bytes) marks
 by_runs run (flushed ∷ marks) = ap (λ (ps : List (List ℕ)). run_pieces run ++ ps) (by_runs [] marks)

@@ -8,7 +8,7 @@ use Rattle.std.proofs.Math.Seq.{take-append_seam, drop-append_seam}
 use Rattle.cy_event.specs.Answers.{content_buffer}
 use Rattle.cy_event.specs.AnswerModes.{Mode, chunked, counted, piece_text, until_close, void}
 use Rattle.cy_out.specs.Laws.{PiecesAreTheContent, PiecesHaveBytes}
-use Rattle.cy_event.specs.Pieces.{IsPiece, Mark, content_put, first_pieces, flushed, piece_count, pieces_behind, put, run_pieces}
+use Rattle.cy_event.specs.Pieces.{IsPiece, PutOrFlush, content_put, first_pieces, flushed, piece_count, pieces_behind, put, run_pieces}
 
 -- ---- a piece in front
 
@@ -21,7 +21,7 @@ full_run front run full =
     ap (λ (n : ℕ). first_pieces n (front ++ run)) count
     ∙ (λ i. first i ∷ first_pieces (piece_count (length run)) (behind i))
 
-pub full_behind : (front run : List ℕ) (marks : List Mark) → length front ≡ content_buffer → pieces_behind (front ++ run) marks ≡ front ∷ pieces_behind run marks
+pub full_behind : (front run : List ℕ) (marks : List PutOrFlush) → length front ≡ content_buffer → pieces_behind (front ++ run) marks ≡ front ∷ pieces_behind run marks
 full_behind front run [] full = full_run front run full
 full_behind front run (put bytes ∷ marks) full =
     ap (λ (r : List ℕ). pieces_behind r marks) (append_assoc front run bytes) ∙ full_behind front (run ++ bytes) marks full

@@ -5,7 +5,7 @@ use Rattle.std.proofs.Math.Seq.{take-length}
 use Rattle.std.specs.Prelude.{not, ◌||◌, nat_lt, option_map}
 use Rattle.std.proofs.lemmas.Bool.Decides.{nat_tests}
 use Rattle.cy_event.specs.Answers.{Answer}
-use Rattle.cy_event.specs.Answering.{Answering, Sending, Took, can_cut, can_take, cut, is_full, more_by, passes_length, push_byte, push_bytes, with_bytes, with_room}
+use Rattle.cy_event.specs.Answering.{Answering, Sending, Took, can_cut, can_take, cut, is_buffer_full, more_by, passes_length, push_byte, push_bytes, with_bytes, with_room}
 
 -- with these bytes more behind what waits
 abbrev pub filled : List ℕ → Answering → Answering
@@ -32,7 +32,7 @@ filled_by_both a b bytes =
     let left = fewer_by_both a.sending.left 1 (length bytes) ∙ ap (λ (n : ℕ). option_map (λ m. m - n) a.sending.left) count in
     λ i. record { sending = record { asked = a.sending.asked; left = left i; waiting = waiting i; commit = a.sending.commit }; output = a.output }
 
-not_full : (a : Answering) → length a.sending.waiting < 8192 → is_full a.sending ≡ false
+not_full : (a : Answering) → length a.sending.waiting < 8192 → is_buffer_full a.sending ≡ false
 not_full a few = grind (arith, nat_tests)
 
 -- one byte, where it can be taken, and where not

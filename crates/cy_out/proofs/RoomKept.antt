@@ -5,7 +5,7 @@ use Rattle.std.proofs.lemmas.Bool.Decides.{nat_tests}
 use Rattle.std.proofs.lemmas.Fmt.{length-decimal-le}
 use Rattle.cy_event.specs.Answers.{Answer, Connection, close, connection_line, content_buffer, crlf, keep_alive, silent}
 use Rattle.cy_event.specs.AnswerModes.{Mode, Shape, chunked, chunked_line, counted, has_no_content, head_of_shape, hex_text, last_text, length_line, piece_text, shape_of, until_close, void}
-use Rattle.cy_event.specs.Answering.{Answering, Commit, Took, after_finish, can_cut, can_take, commit_by, cut, has_to_cut, is_committed, is_full, mode_in, more_by, output_limit, passes_length, push_byte, push_bytes, set_length_of, whole_length_of, with_bytes, with_head}
+use Rattle.cy_event.specs.Answering.{Answering, Commit, Took, after_finish, can_cut, can_take, commit_by, cut, has_to_cut, is_committed, is_buffer_full, mode_in, more_by, output_limit, passes_length, push_byte, push_bytes, set_length_of, whole_length_of, with_bytes, with_head}
 use Rattle.cy_respond.specs.Fields.{is_status}
 use Rattle.cy_respond.proofs.HeadSizes.{head_size}
 use Rattle.cy_respond.proofs.LineLemmas.{length_of_lines}
@@ -147,9 +147,9 @@ joined_fits b a room f =
 
 byte_fits : (head : Answer) (at b : ℕ) (a : Answering) → IsWithinLimits head → can_take a ≡ true → Fits a → Fits (push_byte head at b a)
 byte_fits head at b a within takes f =
-    elim (is_full a.sending) as (λ v. is_full a.sending ≡ v
+    elim (is_buffer_full a.sending) as (λ v. is_buffer_full a.sending ≡ v
     → (let r : Answering = elim v [ true ↦ cut head at a | false ↦ a ] in Fits (record r { sending = with_bytes (b ∷ []) r.sending }))) [
-      | true ↦ λ full. joined_fits b (cut head at a) (omega arith) (cut_fits head at a within f.kept (room_to_cut (is_full a.sending) (can_cut a.output) takes full))
+      | true ↦ λ full. joined_fits b (cut head at a) (omega arith) (cut_fits head at a within f.kept (room_to_cut (is_buffer_full a.sending) (can_cut a.output) takes full))
       | false ↦ λ room. joined_fits b a (room_is a.sending room) f
     ] refl
 

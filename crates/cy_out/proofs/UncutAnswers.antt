@@ -5,7 +5,7 @@ use Rattle.std.specs.List.{concat, flat_map}
 use Rattle.std.proofs.lemmas.Bool.Decides.{nat_tests}
 use Rattle.cy_event.specs.Answers.{Answer, Connection, answer_text, content_length, head_of_answer, head_text, takes}
 use Rattle.cy_event.specs.AnswerModes.{Asked, Mode, connection_of, counted, framing_lines, has_no_content, piece_text, void}
-use Rattle.cy_event.specs.Answering.{Took, can_cut, can_take, is_full, push_bytes, set_length_of}
+use Rattle.cy_event.specs.Answering.{Took, can_cut, can_take, is_buffer_full, push_bytes, set_length_of}
 use Rattle.cy_out.specs.Exchanges.{marks_of, written}
 use Rattle.cy_event.specs.AnswerBytes.{answer_bytes, content_text, known_length}
 use Rattle.cy_out.specs.Laws.{UncutAnswersAreOneText, WritesFillTheBuffer}
@@ -21,7 +21,7 @@ use Rattle.cy_out.proofs.WholeAnswers.{answers_are_whole, start_of, starts, uncu
 pub writes_fill_the_buffer : WritesFillTheBuffer
 writes_fill_the_buffer head at [] a stuck = omega arith
 writes_fill_the_buffer head at (b ∷ bytes) a stuck =
-    elim (is_full a.sending) as (λ v. is_full a.sending ≡ v
+    elim (is_buffer_full a.sending) as (λ v. is_buffer_full a.sending ≡ v
     → (push_bytes head at (b ∷ bytes) a).count ≡ takes (length a.sending.waiting) (length (b ∷ bytes))) [
       | true ↦ λ full. let no_room : can_take a ≡ false = ap (λ (t : Bool). not t || can_cut a.output) full ∙ stuck in
           let many : 8192 ≤ length a.sending.waiting = grind (arith, nat_tests) in

@@ -6,11 +6,11 @@ use Rattle.std.proofs.lemmas.Bool.{lt-ltb}
 use Rattle.std.proofs.lemmas.Bool.Decides.{nat_tests}
 use Rattle.cy_event.specs.Answers.{Answer, content_buffer}
 use Rattle.cy_event.specs.AnswerModes.{Asked, closes, head_of_shape, last_text, mode_of, piece_text, shape_of}
-use Rattle.cy_event.specs.Answering.{Answering, Commit, Took, after_finish, can_cut, can_take, commit_by, cut, has_to_cut, is_empty, is_full, more_by, passes_length, push_byte, push_bytes, set_length_of, whole_length_of, with_bytes, with_head, with_room}
+use Rattle.cy_event.specs.Answering.{Answering, Commit, Took, after_finish, can_cut, can_take, commit_by, cut, has_to_cut, is_empty, is_buffer_full, more_by, passes_length, push_byte, push_bytes, set_length_of, whole_length_of, with_bytes, with_head, with_room}
 use Rattle.cy_out.specs.Exchanges.{Act, Exchange, after_act, after_acts, finished, flushes, head_moment, is_out, marks_by, marks_of, moment_of, receives, writes, written}
 use Rattle.cy_event.specs.AnswerBytes.{answer_bytes, known_length}
 use Rattle.cy_out.specs.Laws.{AnswersAreWhole}
-use Rattle.cy_event.specs.Pieces.{Mark, content_put, flushed, is_cut_early, is_flush, pieces_behind, put}
+use Rattle.cy_event.specs.Pieces.{PutOrFlush, content_put, flushed, is_cut_early, is_flush, pieces_behind, put}
 use Rattle.cy_out.proofs.ContentSent.{Sends, acts_send, finish_sends, flush_sends, full_cut_sends, full_is, joins, push_sends, received_more, room_is}
 use Rattle.cy_out.proofs.Pushes.{fits_less}
 
@@ -20,7 +20,7 @@ pub record Coming : Type 0 where
   pub pieces : List (List ℕ)
   pub early : Bool
 
-abbrev pub coming_of : List ℕ → List Mark → Coming
+abbrev pub coming_of : List ℕ → List PutOrFlush → Coming
 coming_of run marks = record { content = run ++ content_put marks; pieces = pieces_behind run marks; early = is_cut_early run marks }
 
 -- what is known of the answer from its start on: the request, the length that was set, what was written before, and
@@ -32,7 +32,7 @@ pub record Start : Type 0 where
   pub coming : Coming
 
 -- nothing is out yet
-pub record Waits (s : Start) (got : List ℕ) (marks : List Mark) (a : Answering) : Type 0 where
+pub record Waits (s : Start) (got : List ℕ) (marks : List PutOrFlush) (a : Answering) : Type 0 where
   pub commit : a.sending.commit ≡ None
   pub few : length a.sending.waiting ≤ content_buffer
   pub asked : a.sending.asked ≡ s.asked
@@ -47,7 +47,7 @@ head_and_pieces head s known moment =
     ++ flat_map (piece_text (mode_of s.asked head.status known)) s.coming.pieces
 
 -- the head is out, knows this length, and is of this moment
-pub record Began (head : Answer) (s : Start) (known : Option ℕ) (moment : ℕ) (got : List ℕ) (marks : List Mark) (a : Answering) : Type 0 where
+pub record Began (head : Answer) (s : Start) (known : Option ℕ) (moment : ℕ) (got : List ℕ) (marks : List PutOrFlush) (a : Answering) : Type 0 where
   pub closing : Bool
   pub sends : Sends (mode_of s.asked head.status known) closing got marks (head_and_pieces head s known moment) a
 
@@ -62,7 +62,7 @@ is_unsettled a given =
     λ i. record { sending = record { asked = a.sending.asked; left = a.sending.left; waiting = a.sending.waiting; commit = given i }; output = a.output }
 
 -- with the head the answer has begun, and the pieces are the same
-begins : (head : Answer) (at : ℕ) (s : Start) (known : Option ℕ) (got : List ℕ) (marks : List Mark) (a : Answering)
+begins : (head : Answer) (at : ℕ) (s : Start) (known : Option ℕ) (got : List ℕ) (marks : List PutOrFlush) (a : Answering)
     → Waits s got marks a → Began head s known at got marks (with_head head at known a)
 begins head at s known got marks a w =
     let text = head_of_shape head (shape_of s.asked head.status known) at in
@@ -91,7 +91,7 @@ head_leaves : (head : Answer) (at : ℕ) (known : Option ℕ) (a : Answering) �
 head_leaves head at known a given =
     subst (λ (x : Answering). (with_head head at known x).sending.waiting ≡ x.sending.waiting) (sym (is_unsettled a given)) refl
 
-begins_full : (head : Answer) (at b : ℕ) (s : Start) (got : List ℕ) (marks : List Mark) (a : Answering) → length a.sending.waiting ≡ content_buffer
+begins_full : (head : Answer) (at b : ℕ) (s : Start) (got : List ℕ) (marks : List PutOrFlush) (a : Answering) → length a.sending.waiting ≡ content_buffer
     → Waits s got (put (b ∷ []) ∷ marks) a → Began head s s.set_length at got (put (b ∷ []) ∷ marks) (cut head at a)
 begins_full head at b s got marks a full w =
     let known = set_length_of a.sending in
@@ -107,7 +107,7 @@ begins_full head at b s got marks a full w =
       sends = subst (Sends mode g.closing got (put (b ∷ []) ∷ marks) bytes) (sym (cut_is_behind head at a w.commit)) sends;
     })
 
-begins_flushed : (head : Answer) (at : ℕ) (s : Start) (got : List ℕ) (marks : List Mark) (a : Answering)
+begins_flushed : (head : Answer) (at : ℕ) (s : Start) (got : List ℕ) (marks : List PutOrFlush) (a : Answering)
     → Waits s got (flushed ∷ marks) a → Began head s s.set_length at got marks (cut head at a)
 begins_flushed head at s got marks a w =
     let known = set_length_of a.sending in
@@ -125,20 +125,20 @@ begins_flushed head at s got marks a w =
 -- ---- writes
 
 -- nothing is out yet, or the head is out since this moment
-pub data Stage (head : Answer) (s : Start) (moment : ℕ) (got : List ℕ) (marks : List Mark) (a : Answering) : Type 0 where
+pub data Stage (head : Answer) (s : Start) (moment : ℕ) (got : List ℕ) (marks : List PutOrFlush) (a : Answering) : Type 0 where
   waits : Waits s got marks a → Stage head s moment got marks a
   began : s.coming.early ≡ true → Began head s s.set_length moment got marks a → Stage head s moment got marks a
 
 -- what is put joins the run
-joined : (run bytes : List ℕ) (marks : List Mark) → coming_of (run ++ bytes) marks ≡ coming_of run (put bytes ∷ marks)
+joined : (run bytes : List ℕ) (marks : List PutOrFlush) → coming_of (run ++ bytes) marks ≡ coming_of run (put bytes ∷ marks)
 joined run bytes marks =
     let same = append_assoc run bytes (content_put marks) in
     λ i. record { content = same i; pieces = pieces_behind (run ++ bytes) marks; early = list_any is_flush marks || nat_lt content_buffer (length (same i)) }
 
-nothing_joins : (run : List ℕ) (marks : List Mark) → coming_of run (put [] ∷ marks) ≡ coming_of run marks
+nothing_joins : (run : List ℕ) (marks : List PutOrFlush) → coming_of run (put [] ∷ marks) ≡ coming_of run marks
 nothing_joins run marks = sym (joined run [] marks) ∙ ap (λ (r : List ℕ). coming_of r marks) (append-nil run)
 
-one_by_one : (run : List ℕ) (b n : ℕ) (more : List ℕ) (marks : List Mark)
+one_by_one : (run : List ℕ) (b n : ℕ) (more : List ℕ) (marks : List PutOrFlush)
     → coming_of run (put (take (1 + n) (b ∷ more)) ∷ marks) ≡ coming_of run (put (b ∷ []) ∷ (put (take n more) ∷ marks))
 one_by_one run b n more marks =
     let up : 1 + n ≡ suc n = omega arith in
@@ -153,7 +153,7 @@ or_true true b is = refl
 or_true false b is = is
 
 -- a byte behind a full buffer makes a cut
-cut_by_more : (run : List ℕ) (b : ℕ) (marks : List Mark) → length run ≡ content_buffer → is_cut_early run (put (b ∷ []) ∷ marks) ≡ true
+cut_by_more : (run : List ℕ) (b : ℕ) (marks : List PutOrFlush) → length run ≡ content_buffer → is_cut_early run (put (b ∷ []) ∷ marks) ≡ true
 cut_by_more run b marks full =
     let more = b ∷ [] ++ content_put marks in
     let long : content_buffer < length (run ++ more) = omega (arith, length-append run more) in
@@ -171,10 +171,10 @@ one_fits : (left : Option ℕ) (k : ℕ) → 1 ≤ k → elim left [ None ↦ fa
 one_fits None k some fits = refl
 one_fits (Some l) k some fits = grind (arith, nat_tests)
 
-byte_stage : (head : Answer) (at b : ℕ) (s : Start) (got : List ℕ) (marks : List Mark) (a : Answering) → passes_length a.sending 1 ≡ false
+byte_stage : (head : Answer) (at b : ℕ) (s : Start) (got : List ℕ) (marks : List PutOrFlush) (a : Answering) → passes_length a.sending 1 ≡ false
     → Waits s got (put (b ∷ []) ∷ marks) a → Stage head s at got marks (push_byte head at b a)
 byte_stage head at b s got marks a fits w =
-    elim (is_full a.sending) as (λ v. is_full a.sending ≡ v
+    elim (is_buffer_full a.sending) as (λ v. is_buffer_full a.sending ≡ v
     → (let r : Answering = elim v [ true ↦ cut head at a | false ↦ a ] in Stage head s at got marks (record r { sending = with_bytes (b ∷ []) r.sending }))) [
       | true ↦ λ full. let g = begins_full head at b s got marks a (full_is a.sending full w.few) w in
           began (sym (ap (λ (c : Coming). c.early) w.coming) ∙ cut_by_more a.sending.waiting b marks (full_is a.sending full w.few)) (record {
@@ -191,7 +191,7 @@ byte_stage head at b s got marks a fits w =
       })
     ] refl
 
-waits_by : (s : Start) (got : List ℕ) (marks others : List Mark) (a : Answering) → coming_of a.sending.waiting marks ≡ coming_of a.sending.waiting others
+waits_by : (s : Start) (got : List ℕ) (marks others : List PutOrFlush) (a : Answering) → coming_of a.sending.waiting marks ≡ coming_of a.sending.waiting others
     → Waits s got marks a → Waits s got others a
 waits_by s got marks others a same w =
     record { commit = w.commit; few = w.few; asked = w.asked; set_length = w.set_length; before = w.before; coming = sym same ∙ w.coming }
@@ -211,7 +211,7 @@ head_keeps_left head at known a =
 
 room_keeps_left : (head : Answer) (at : ℕ) (a : Answering) → (with_room head at a).sending.left ≡ a.sending.left
 room_keeps_left head at a =
-    elim (is_full a.sending) as (λ v. let x : Answering = elim v [ true ↦ cut head at a | false ↦ a ] in x.sending.left ≡ a.sending.left) [
+    elim (is_buffer_full a.sending) as (λ v. let x : Answering = elim v [ true ↦ cut head at a | false ↦ a ] in x.sending.left ≡ a.sending.left) [
       | true ↦ head_keeps_left head at (set_length_of a.sending) a
       | false ↦ refl
     ]
@@ -227,7 +227,7 @@ rest_fits head at b more a fits =
     ap (λ (o : Option ℕ). elim o as (λ _. Bool) [ None ↦ false | Some l ↦ nat_lt l (length more) ]) (byte_takes_one head at b a)
     ∙ fits_less a.sending.left 1 (length more) (length (b ∷ more)) sum fits
 
-push_stage : (head : Answer) (at : ℕ) (more : List ℕ) (s : Start) (got : List ℕ) (marks : List Mark) (a : Answering)
+push_stage : (head : Answer) (at : ℕ) (more : List ℕ) (s : Start) (got : List ℕ) (marks : List PutOrFlush) (a : Answering)
     → passes_length a.sending (length more) ≡ false
     → Waits s got (put (take (push_bytes head at more a).count more) ∷ marks) a
     → Stage head s at got marks (push_bytes head at more a).after
@@ -251,7 +251,7 @@ push_stage head at (b ∷ more) s got marks a fits there =
 
 -- ---- acts
 
-pub waiting_act : (head : Answer) (act : Act) (s : Start) (later : ℕ) (marks : List Mark) (x : Exchange)
+pub waiting_act : (head : Answer) (act : Act) (s : Start) (later : ℕ) (marks : List PutOrFlush) (x : Exchange)
     → Waits s x.received (marks_by head act x ++ marks) x.answering
     → Stage head s (unwrap_or (moment_of act) later) (after_act head act x).received marks (after_act head act x).answering
 waiting_act head (writes more at) s later marks x there =
@@ -371,7 +371,7 @@ uncut_moment head (act ∷ acts) at s x w uncut =
     ]
 
 -- what is known where nothing is out
-abbrev pub start_of : Exchange → List Mark → Start
+abbrev pub start_of : Exchange → List PutOrFlush → Start
 start_of x marks = record {
   asked = x.answering.sending.asked;
   set_length = set_length_of x.answering.sending;
@@ -379,7 +379,7 @@ start_of x marks = record {
   coming = coming_of x.answering.sending.waiting marks;
 }
 
-pub starts : (x : Exchange) (marks : List Mark) → x.answering.sending.commit ≡ None → length x.answering.sending.waiting ≤ content_buffer
+pub starts : (x : Exchange) (marks : List PutOrFlush) → x.answering.sending.commit ≡ None → length x.answering.sending.waiting ≤ content_buffer
     → Waits (start_of x marks) x.received marks x.answering
 starts x marks given few = record { commit = given; few = few; asked = refl; set_length = refl; before = refl; coming = refl }
 

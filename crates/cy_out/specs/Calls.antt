@@ -8,7 +8,7 @@ use Rattle.cy_event.specs.Answering.{Sending, aborted, after_length, beginning, 
 use Rattle.cy_event.specs.Heads.{Field}
 use Rattle.cy_respond.specs.Fields.{after_field, after_status, is_status}
 use Rattle.cy_out.specs.Exchanges.{Act, Exchange, after_act, is_out, marks_by, moment_of}
-use Rattle.cy_event.specs.Pieces.{Mark, content_put, put}
+use Rattle.cy_event.specs.Pieces.{PutOrFlush, content_put, put}
 
 -- What changes an answer whose head isn't out: `set_status` and `add_header` of a `RespHead`, `set_length` and `error` of
 -- a `BodyOut`, and `reset` of both. Once the head is out, who calls has to refuse it: a `RespHead` doesn't know that it
@@ -35,7 +35,7 @@ pub record UnderWay : Type 0 where
   pub exchange : Exchange
   -- the length that was set, and what was put and flushed, since the last reset or error and before an abort
   pub set_length : Option ℕ
-  pub marks : List Mark
+  pub marks : List PutOrFlush
   -- the moment of the act that put the head
   pub moment : Option ℕ
   pub is_given_up : Bool

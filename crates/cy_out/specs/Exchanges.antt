@@ -2,7 +2,7 @@
 use Rattle.std.specs.Prelude.{ℕ, Bool, not, ◌&&◌, if◌then◌else◌, List, [], ◌∷◌, ◌++◌, length, take, drop, Option, None, Some, unwrap_or}
 use Rattle.cy_event.specs.Answers.{Answer}
 use Rattle.cy_event.specs.Answering.{Answering, after_finish, after_flush, after_write, can_cut, has_to_cut, is_committed, passes_length, push_bytes}
-use Rattle.cy_event.specs.Pieces.{Mark, flushed, put}
+use Rattle.cy_event.specs.Pieces.{PutOrFlush, flushed, put}
 
 -- what the client got, and the answer with what waits for the client
 pub record Exchange : Type 0 where
@@ -61,11 +61,11 @@ abbrev pub taken_by : Answer → ℕ → List ℕ → Answering → List ℕ
 taken_by head at bytes a = if passes_length a.sending (length bytes) then [] else take (push_bytes head at bytes a).count bytes
 
 -- a flush that finds no room does nothing
-abbrev pub marks_by : Answer → Act → Exchange → List Mark
+abbrev pub marks_by : Answer → Act → Exchange → List PutOrFlush
 marks_by head (writes bytes at) x = put (taken_by head at bytes x.answering) ∷ []
 marks_by head (flushes at) x = if has_to_cut x.answering.sending && not (can_cut x.answering.output) then [] else flushed ∷ []
 marks_by head (receives n) x = []
 
-abbrev pub marks_of : Answer → List Act → Exchange → List Mark
+abbrev pub marks_of : Answer → List Act → Exchange → List PutOrFlush
 marks_of head [] x = []
 marks_of head (act ∷ acts) x = marks_by head act x ++ marks_of head acts (after_act head act x)

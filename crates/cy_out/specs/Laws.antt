@@ -3,7 +3,7 @@ use Rattle.std.specs.Prelude.{◌≡◌, ◌↔◌, ℕ, ◌+◌, ◌^◌, ◌<�
 use Rattle.std.specs.List.{All, concat, flat_map, list_all}
 use Rattle.cy_event.specs.Answers.{Answer, Connection, answer_text, close, content_buffer, continue_text, head_of_answer, head_text, keep_alive, silent, takes}
 use Rattle.cy_event.specs.AnswerModes.{Asked, Mode, Shape, chunked, connection_of, counted, framing_lines, has_no_content, head_of_shape, last_text, mode_of, piece_text, shape_of, until_close, void}
-use Rattle.cy_event.specs.Answering.{Answering, Sending, after_finish, beginning, can_cut, commit_by, cut_room, is_full, is_short, length_reply, output_limit, passes_length, push_byte, push_bytes, set_length_of}
+use Rattle.cy_event.specs.Answering.{Answering, Sending, after_finish, beginning, can_cut, commit_by, cut_room, is_buffer_full, is_short, length_reply, output_limit, passes_length, push_byte, push_bytes, set_length_of}
 use Rattle.cy_event.specs.AnswerBytes.{answer_bytes, bytes_so_far, content_text, known_length}
 use Rattle.cy_event.specs.BodyGrammar.{IsBody}
 use Rattle.cy_event.specs.Heads.{front_length}
@@ -13,7 +13,7 @@ use Rattle.cy_respond.specs.Fields.{field_size, is_status, may_stand}
 use Rattle.cy_respond.specs.declared.head.TheConstants.{FIELD_LIMIT, FIELD_SIZE_LIMIT}
 use Rattle.cy_out.specs.Calls.{Call, UnderWay, aborts, after_call, after_calls, begun, changes, sending, sets_close, sets_length}
 use Rattle.cy_out.specs.Exchanges.{Act, Exchange, after_acts, finished, head_moment, is_out, marks_of, written}
-use Rattle.cy_event.specs.Pieces.{EndsAt, IsCut, IsPiece, Mark, content_put, cut_pieces, is_cut_early, pieces_behind, runs_behind}
+use Rattle.cy_event.specs.Pieces.{EndsAt, IsCut, IsPiece, PutOrFlush, content_put, cut_pieces, is_cut_early, pieces_behind, runs_behind}
 use Rattle.cy_out.specs.Kept.{CanFinish}
 
 -- ---- what is taken
@@ -22,7 +22,7 @@ use Rattle.cy_out.specs.Kept.{CanFinish}
 abbrev pub CutsFindRoom : Answer → ℕ → List ℕ → Answering → Type 0
 CutsFindRoom head at [] a = Unit {0}
 CutsFindRoom head at (b ∷ bytes) a =
-    (is_full a.sending ≡ true → cut_room + length a.output ≤ output_limit) × CutsFindRoom head at bytes (push_byte head at b a)
+    (is_buffer_full a.sending ≡ true → cut_room + length a.output ≤ output_limit) × CutsFindRoom head at bytes (push_byte head at b a)
 
 -- the count is that of the longest front whose cuts find room
 pub record IsGreatest (head : Answer) (at : ℕ) (bytes : List ℕ) (a : Answering) (count : ℕ) : Type 0 where
@@ -47,16 +47,16 @@ NoContentIsUnframed = (asked : Asked) (status : ℕ) (n : Option ℕ) → has_no
 
 -- The pieces, one after another, are the content.
 abbrev pub PiecesAreTheContent : Type 0
-PiecesAreTheContent = (run : List ℕ) (marks : List Mark) → concat (pieces_behind run marks) ≡ run ++ content_put marks
+PiecesAreTheContent = (run : List ℕ) (marks : List PutOrFlush) → concat (pieces_behind run marks) ≡ run ++ content_put marks
 
 -- No piece is empty, and none is longer than what waits at most.
 abbrev pub PiecesHaveBytes : Type 0
-PiecesHaveBytes = (run : List ℕ) (marks : List Mark) → All IsPiece (pieces_behind run marks)
+PiecesHaveBytes = (run : List ℕ) (marks : List PutOrFlush) → All IsPiece (pieces_behind run marks)
 
 -- They end where the content is cut: at flushes, at its end, and at positive multiples of 8,192 bytes since the last
 -- flush behind which a further byte was put.
 abbrev pub PiecesEndAtCuts : Type 0
-PiecesEndAtCuts = (run : List ℕ) (marks : List Mark) (place : ℕ) → EndsAt (pieces_behind run marks) place ↔ IsCut (runs_behind run marks) place
+PiecesEndAtCuts = (run : List ℕ) (marks : List PutOrFlush) (place : ℕ) → EndsAt (pieces_behind run marks) place ↔ IsCut (runs_behind run marks) place
 
 -- Behind a head that is out the pieces follow, and what ends the content.
 abbrev pub PiecesFollowTheHead : Type 0

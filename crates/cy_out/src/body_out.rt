@@ -80,7 +80,7 @@ impl Model for BodyOut {
 }
 
 impl BodyOut {
-    ghost use Rattle.cy_event.specs.Answering.{aborted, after_finish, after_flush, after_length, after_write, beginning, can_take, closing, cut, emptied, error_head, flush_reply, has_closed, has_to_cut, idle, is_committed, is_full, is_short, length_reply, mode_in, passes_length, push_bytes, set_length_of, whole_length_of, with_bytes, with_error, with_head, with_piece, with_room, write_reply};
+    ghost use Rattle.cy_event.specs.Answering.{aborted, after_finish, after_flush, after_length, after_write, beginning, can_take, closing, cut, emptied, error_head, flush_reply, has_closed, has_to_cut, idle, is_committed, is_buffer_full, is_short, length_reply, mode_in, passes_length, push_bytes, set_length_of, whole_length_of, with_bytes, with_error, with_head, with_piece, with_room, write_reply};
     ghost use Rattle.cy_respond.specs.Fields.{is_status};
     ghost use Rattle.cy_out.specs.Kept.{CanFinish, answering_with, head_room};
 
@@ -173,7 +173,7 @@ impl BodyOut {
         ensures input { kit.new.input ≡ kit.old.input }
         ensures end { CanFinish (answering_with self.old kit.old) → CanFinish (answering_with self.new kit.new) }
     {
-        if !self.is_full() {
+        if !self.is_buffer_full() {
             return true;
         }
         if !can_cut(kit) {
@@ -290,8 +290,8 @@ impl BodyOut {
     }
 
     /// Whether as many bytes wait as may.
-    fn is_full(&self) -> bool
-        ensures { result ≡ is_full self.now }
+    fn is_buffer_full(&self) -> bool
+        ensures { result ≡ is_buffer_full self.now }
     {
         self.waiting.len() >= PIECE_SIZE
     }
@@ -434,7 +434,7 @@ impl BodyOut {
     pub fn is_writable(&self, kit: &ConnKit) -> bool
         ensures { result ≡ can_take (answering_with self.now kit.now) }
     {
-        !self.is_full() || can_cut(kit)
+        !self.is_buffer_full() || can_cut(kit)
     }
 }
 

@@ -8,11 +8,11 @@ use Rattle.cy_map.specs.declared.rule.Rule.{Rule}
 use Rattle.cy_map.specs.Mapping.{mapped}
 use Rattle.cy_model.specs.Marks.{Mark, Trace}
 use Rattle.cy_model.specs.Settling.{Due, nothing, refusal, not_found, request, due_by_front, due_by_verdict}
-use Rattle.cy_model.specs.Unbuilt.{NothingUnbuilt, is_unbuilt, is_unbuilt_request}
-use Rattle.cy_model.specs.Verdicts.{Verdict, turned_away, unserved, served, by_framing, by_rule, by_target, is_connect, is_unbuilt as is_unbuilt_head, verdict_of}
+use Rattle.cy_model.specs.Unbuilt.{NothingUnbuilt, is_unbuilt_mark, is_unbuilt_request}
+use Rattle.cy_model.specs.Verdicts.{Verdict, turned_away, unserved, served, by_framing, by_rule, by_target, is_connect, is_unbuilt, verdict_of}
 
 -- one mark more
-pub built_more : (t : ℕ) (m : Mark) (T : Trace) → is_unbuilt m ≡ false → NothingUnbuilt T → NothingUnbuilt ((t, m) ∷ T)
+pub built_more : (t : ℕ) (m : Mark) (T : Trace) → is_unbuilt_mark m ≡ false → NothingUnbuilt T → NothingUnbuilt ((t, m) ∷ T)
 built_more t m T built before = (built, before)
 
 -- ---- a request that is taken up has no body, and isn't one of HEAD
@@ -20,18 +20,18 @@ built_more t m T built before = (built, before)
 -- a verdict by which a request begins
 IsBuiltVerdict : Head → Verdict → Type 0
 IsBuiltVerdict head (turned_away status) = Unit {0}
-IsBuiltVerdict head (unserved f) = is_unbuilt_head head f ≡ false
-IsBuiltVerdict head (served rule f) = is_unbuilt_head head f ≡ false
+IsBuiltVerdict head (unserved f) = is_unbuilt head f ≡ false
+IsBuiltVerdict head (served rule f) = is_unbuilt head f ≡ false
 
-rule_built : (head : Head) (f : Framed) (o : Option Rule) → is_unbuilt_head head f ≡ false → IsBuiltVerdict head (by_rule f o)
+rule_built : (head : Head) (f : Framed) (o : Option Rule) → is_unbuilt head f ≡ false → IsBuiltVerdict head (by_rule f o)
 unfolding IsBuiltVerdict
 rule_built head f None built = built
 rule_built head f (Some rule) built = built
 
-framing_built : (rules : List Rule) (head : Head) (path : List ℕ) (f : Framed) → IsBuiltVerdict head (cond (is_unbuilt_head head f) (turned_away not_implemented) (by_rule f (mapped rules path)))
+framing_built : (rules : List Rule) (head : Head) (path : List ℕ) (f : Framed) → IsBuiltVerdict head (cond (is_unbuilt head f) (turned_away not_implemented) (by_rule f (mapped rules path)))
 unfolding IsBuiltVerdict
 framing_built rules head path f =
-    elim (is_unbuilt_head head f) as (λ v. is_unbuilt_head head f ≡ v → IsBuiltVerdict head (cond v (turned_away not_implemented) (by_rule f (mapped rules path)))) [
+    elim (is_unbuilt head f) as (λ v. is_unbuilt head f ≡ v → IsBuiltVerdict head (cond v (turned_away not_implemented) (by_rule f (mapped rules path)))) [
       | true ↦ λ e. tt
       | false ↦ λ e. rule_built head f (mapped rules path) e
     ] refl

@@ -35,7 +35,7 @@ use Rattle.cy_proc.specs.Lines.{LineParts, Represents}
 use Rattle.cy_proc.specs.LineChanges.{after_begin, after_end_of, after_event, after_refusal, after_rest, after_told, ends_at_rest, front_at, is_closed_line, is_due, causes_left, may_begin_line, room_of, work_of}
 use Rattle.cy_proc.specs.ProcessorAnswers.{Serves, ServesAfter, TakesUp, ended_items}
 use Rattle.cy_proc.specs.ProcessorChanges.{due_at, due_of_head, line_with, processor_with, with_request}
-use Rattle.cy_proc.specs.Processors.{IsIdle, IsOfRequest, IsServiceAlone, ProcessorParts, RequestFolds, StandsFor, fresh_processor, is_open_at, request_folds, service_by, stage_by, uncut, waiting_content}
+use Rattle.cy_proc.specs.Processors.{IsIdle, IsOfRequest, IsServiceAlone, ProcessorParts, RequestFolds, StandsForRequest, fresh_processor, is_open_at, request_folds, service_by, stage_by, uncut, waiting_content}
 use Rattle.cy_proc.specs.declared.processor.Stage.TheVariants as stage
 use Rattle.cy_proc.proofs.Built.{IsBuiltDue, built_more, due_built}
 use Rattle.cy_proc.proofs.Lines.{began_stands, marks_at, over_stands, plainly, refused_stands, rest_moment, rest_stands}
@@ -201,7 +201,7 @@ request_taken limits T r l place front built none s =
     let bounds = size_bounds limits T r front in
     let stood = began_stands r T l place bounds.1 built none bounds.0 s in
     let same = rested_same limits m R (plainly R stood.sound) in
-    let stands : StandsFor R q = inl (record { same = refl; alone = begun_alone r T m built }) in
+    let stands : StandsForRequest R q = inl (record { same = refl; alone = begun_alone r T m built }) in
     record {
       marks = began r ∷ [];
       moved = refl;

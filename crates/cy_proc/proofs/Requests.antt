@@ -45,7 +45,7 @@ use Rattle.cy_proc.specs.declared.processor.Stage.TheVariants as stage
 use Rattle.cy_proc.specs.LineChanges.{after_end_of, after_rest, after_told, at_moment, told_answer}
 use Rattle.cy_proc.specs.ProcessorAnswers.{Answers, Serves, ServesAfter, ended_items}
 use Rattle.cy_proc.specs.ProcessorChanges.{after_job, after_return, after_write, has_no_room, job_at, line_returned, owed_at, write_reply, write_room}
-use Rattle.cy_proc.specs.Processors.{IsIdle, IsOfRequest, IsServiceAlone, ProcessorParts, RequestFolds, StandsBy, StandsFor, calls_by, fresh_processor, is_open_at, over_charts, over_charts_at, processor_parts, request_folds, minor_by, service_by, stage_by, stage_of, table_by, waiting_content, keep_by, uncut}
+use Rattle.cy_proc.specs.Processors.{IsIdle, IsOfRequest, IsServiceAlone, ProcessorParts, RequestFolds, StandsBy, StandsForRequest, calls_by, fresh_processor, is_open_at, over_charts, over_charts_at, processor_parts, request_folds, minor_by, service_by, stage_by, stage_of, table_by, waiting_content, keep_by, uncut}
 use Rattle.cy_proc.proofs.Built.{built_more}
 use Rattle.cy_proc.proofs.Lines.{marks_at, moved_stands, over_stands, plainly, rest_moment, rest_stands, told_from}
 
@@ -98,7 +98,7 @@ event_same limits t e b T p =
 -- ---- standing
 
 -- what stands for a trace stands for each with the same requests
-pub stands_same : (T R : Trace) (p : ProcessorParts) → SameRequests T R → StandsFor T p → StandsFor R p
+pub stands_same : (T R : Trace) (p : ProcessorParts) → SameRequests T R → StandsForRequest T p → StandsForRequest R p
 stands_same T R p same s = subst (λ (f : RequestFolds). StandsBy f p) (sym same.folds) s
 
 -- no request has ended
@@ -140,7 +140,7 @@ stage_serving false false None runs e = cc
 stage_serving false false (Some r) runs e = cc
 
 -- the parts of an open request are those of the last one
-pub stands_request : (T : Trace) (p : ProcessorParts) → is_open_at p.stage ≡ true → StandsFor T p → IsOfRequest (request_folds T) p
+pub stands_request : (T : Trace) (p : ProcessorParts) → is_open_at p.stage ≡ true → StandsForRequest T p → IsOfRequest (request_folds T) p
 stands_request T p o s =
     elim s [
       | inl w ↦ w
@@ -152,7 +152,7 @@ request_open : (f : RequestFolds) (p : ProcessorParts) → IsOfRequest f p → f
 request_open f p s =
     sym (stage_open f.is_open f.is_refused f.taken f.running) ∙ ap (λ (q : ProcessorParts). is_open_at q.stage) (sym s.same)
 
-pub stands_open : (T : Trace) (p : ProcessorParts) → StandsFor T p → is_open T ≡ is_open_at p.stage
+pub stands_open : (T : Trace) (p : ProcessorParts) → StandsForRequest T p → is_open T ≡ is_open_at p.stage
 stands_open T p s =
     elim s [
       | inl w ↦ request_open (request_folds T) p w
@@ -160,7 +160,7 @@ stands_open T p s =
     ]
 
 -- once it isn't, nothing runs
-pub stands_idle : (T : Trace) (p : ProcessorParts) → is_open_at p.stage ≡ false → StandsFor T p → IsIdle (request_folds T)
+pub stands_idle : (T : Trace) (p : ProcessorParts) → is_open_at p.stage ≡ false → StandsForRequest T p → IsIdle (request_folds T)
 stands_idle T p closed s =
     elim s [
       | inl w ↦
@@ -180,7 +180,7 @@ stage_free false false None runs e begun = cc
 stage_free false false (Some r) runs e begun = cc
 
 -- free parts are those of no request
-pub stands_free : (T : Trace) (p : ProcessorParts) → p.stage ≡ stage.Free → StandsFor T p → p ≡ fresh_processor p.limits
+pub stands_free : (T : Trace) (p : ProcessorParts) → p.stage ≡ stage.Free → StandsForRequest T p → p ≡ fresh_processor p.limits
 stands_free T p at s =
     let f = request_folds T in
     elim s [
@@ -226,7 +226,7 @@ serving_request f p at s =
     open_by f true (request_open f p s ∙ ap is_open_at at) s.alone (stage_serving f.is_open f.is_refused f.taken f.running here)
 
 -- what follows without a change of the requests
-pub serves_same : (T R : Trace) (l : LineParts) (p : ProcessorParts) → is_open_at p.stage ≡ true → SameRequests T R → StandsFor T p → Represents R l → ServesAfter T R l p
+pub serves_same : (T R : Trace) (l : LineParts) (p : ProcessorParts) → is_open_at p.stage ≡ true → SameRequests T R → StandsForRequest T p → Represents R l → ServesAfter T R l p
 serves_same T R l p o same s line = record {
   serves = record { line = line; processor = stands_same T R p same s };
   charts = charts_same T R p same (open_charts p.stage p.progress o);
@@ -304,7 +304,7 @@ unfolding service_at
 closed_owes T st part closed none =
     none ∙ sym (ap (λ (v : Bool). if v && is_none (running T) then service_in state.Dispatched (is_served T) (part_of T) else None) closed)
 
-owed_by : (st : Stage) (T : Trace) (p : ProcessorParts) → p.stage ≡ st → StandsFor T p → owed_at st p.part ≡ service_at (is_open T) (running T) (is_served T) (part_of T)
+owed_by : (st : Stage) (T : Trace) (p : ProcessorParts) → p.stage ≡ st → StandsForRequest T p → owed_at st p.part ≡ service_at (is_open T) (running T) (is_served T) (part_of T)
 unfolding service_at
 owed_by stage.Free T p at s = closed_owes T stage.Free p.part (stands_open T p s ∙ ap is_open_at at) refl
 owed_by stage.Owed T p at s =
@@ -324,7 +324,7 @@ owed_by stage.Serving T p at s =
 owed_by stage.Over T p at s = closed_owes T stage.Over p.part (stands_open T p s ∙ ap is_open_at at) refl
 owed_by stage.Refused T p at s = closed_owes T stage.Refused p.part (stands_open T p s ∙ ap is_open_at at) refl
 
-pub owed_is : (T : Trace) (p : ProcessorParts) → IsPlain T → StandsFor T p → job_at p ≡ next_job T
+pub owed_is : (T : Trace) (p : ProcessorParts) → IsPlain T → StandsForRequest T p → job_at p ≡ next_job T
 unfolding service_at
 owed_is T p plain_now s = owed_by p.stage T p refl s ∙ sym (plain_job T plain_now)
 

@@ -13,7 +13,7 @@ use Rattle.cy_model.specs.Marks.{Trace}
 use Rattle.cy_model.specs.Replies.{Replied, plain, replied_in}
 use Rattle.cy_model.specs.Settling.{rested, taken_up}
 use Rattle.cy_proc.specs.Lines.{LineParts, Represents}
-use Rattle.cy_proc.specs.Processors.{ProcessorParts, StandsFor, over_charts}
+use Rattle.cy_proc.specs.Processors.{ProcessorParts, StandsForRequest, over_charts}
 
 -- the reply that a slot alone gives, to who isn't its tenant
 abbrev pub is_ended : Reply → Bool
@@ -23,7 +23,7 @@ is_ended r = false
 -- line and processor stand for one trace
 pub record Serves (T : Trace) (l : LineParts) (p : ProcessorParts) : Type 0 where
   pub line : Represents T l
-  pub processor : StandsFor T p
+  pub processor : StandsForRequest T p
 
 -- the charts of the ended requests
 abbrev pub ended_items : Trace → List (List ChartItem)

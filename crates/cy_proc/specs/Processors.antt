@@ -194,8 +194,8 @@ abbrev pub StandsBy : RequestFolds → ProcessorParts → Type 0
 StandsBy f p = IsOfRequest f p ⊎ IsFree f p
 
 -- the parts stand for a trace
-abbrev pub StandsFor : Trace → ProcessorParts → Type 0
-StandsFor T p = StandsBy (request_folds T) p
+abbrev pub StandsForRequest : Trace → ProcessorParts → Type 0
+StandsForRequest T p = StandsBy (request_folds T) p
 
 -- ---- what a stage says
 

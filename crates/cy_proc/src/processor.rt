@@ -11,7 +11,7 @@ ghost use Rattle.cy_model.specs.Steps.{IsWithinBytes};
 ghost use Rattle.cy_proc.specs.LineChanges.{after_refusal, is_due, work_of};
 ghost use Rattle.cy_proc.specs.ProcessorAnswers.{AnswersEachAct, AnswersEachEvent, AnswersEachTurn, Serves, TakesUpEach, is_ended};
 ghost use Rattle.cy_proc.specs.ProcessorChanges.{after_job, after_return, after_write, due_at, due_of_head, job_at, line_returned, line_with, processor_with, write_reply};
-ghost use Rattle.cy_proc.specs.Processors.{IsIdle, StandsFor, fresh_processor, has_request_at, is_free_at, is_open_at, is_over_at, part_at, request_folds};
+ghost use Rattle.cy_proc.specs.Processors.{IsIdle, StandsForRequest, fresh_processor, has_request_at, is_free_at, is_open_at, is_over_at, part_at, request_folds};
 
 use crate::line::Line;
 use crate::verdict::{BAD_REQUEST, Judgement, judge};
@@ -92,7 +92,7 @@ impl Processor {
         ensures fresh { IfOk result (λ processor. processor ≡ fresh_processor limits.now) }
 
         // It stands for each trace in which no request is open.
-        ensures stands { IfOk result (λ processor. (T : Trace) → IsIdle (request_folds T) → StandsFor T processor) }
+        ensures stands { IfOk result (λ processor. (T : Trace) → IsIdle (request_folds T) → StandsForRequest T processor) }
     {
         Ok(Processor {
             limits: *limits,
@@ -274,7 +274,7 @@ impl Processor {
         ensures fresh { self.new ≡ fresh_processor self.old.limits }
 
         // It stands for each trace in which no request is open.
-        ensures stands { (T : Trace) → IsIdle (request_folds T) → StandsFor T self.new }
+        ensures stands { (T : Trace) → IsIdle (request_folds T) → StandsForRequest T self.new }
     {
         self.stage = Stage::Free;
         self.table.clear();

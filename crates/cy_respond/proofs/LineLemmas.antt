@@ -8,11 +8,11 @@ use Rattle.std.proofs.lemmas.List.Folds.{list_all-append}
 use Rattle.std.proofs.lemmas.List.Elements.{All-head, All-tail, All-append, All-cons, All-nil, All-weaker}
 use Rattle.cy_event.specs.Answers.{crlf, field_line}
 use Rattle.cy_event.specs.Heads.{Field}
-use Rattle.cy_respond.specs.Fields.{field_size, may_stand, size_of}
+use Rattle.cy_respond.specs.Fields.{field_size, may_stand, size_of_field}
 use Rattle.cy_respond.specs.FieldLines.{field_at, IsPlaceWithin}
 use Rattle.cy_respond.specs.declared.head.FieldPlace.{FieldPlace}
 
-length_of_line : (f : Field) → length (field_line f) ≡ size_of f + 4
+length_of_line : (f : Field) → length (field_line f) ≡ size_of_field f + 4
 length_of_line f = simp length-append (omega arith)
 
 -- lines are as long as their names and values, and four bytes more for each

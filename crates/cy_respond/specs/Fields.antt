@@ -32,34 +32,34 @@ abbrev pub may_stand : Field → Bool
 may_stand f = is_free_name f.name && is_one_line f.value
 
 -- how many bytes the name and the value have
-abbrev pub size_of : Field → ℕ
-size_of f = length f.name + length f.value
+abbrev pub size_of_field : Field → ℕ
+size_of_field f = length f.name + length f.value
 
 -- how many bytes all names and values have together
 abbrev pub field_size : List Field → ℕ
 field_size [] = 0
-field_size (f ∷ fs) = size_of f + field_size fs
+field_size (f ∷ fs) = size_of_field f + field_size fs
 
 abbrev pub with_field : Field → Answer → Answer
 with_field f a = record a { fields = a.fields ++ f ∷ [] }
 
 -- there are as many fields as there may be
-abbrev pub is_full : List Field → Bool
-is_full fields = nat_le FIELD_LIMIT (length fields)
+abbrev pub has_most_fields : List Field → Bool
+has_most_fields fields = nat_le FIELD_LIMIT (length fields)
 
 -- the names and values would take too many bytes
 abbrev pub is_too_long : Field → List Field → Bool
-is_too_long f fields = nat_lt FIELD_SIZE_LIMIT (field_size fields + size_of f)
+is_too_long f fields = nat_lt FIELD_SIZE_LIMIT (field_size fields + size_of_field f)
 
 abbrev pub field_reply : Field → Answer → Reply
 field_reply f a =
     if not (may_stand f) then reply.BadValue
-    else (if is_full a.fields then reply.TooMany FIELD_LIMIT
+    else (if has_most_fields a.fields then reply.TooMany FIELD_LIMIT
     else (if is_too_long f a.fields then reply.TooMany FIELD_SIZE_LIMIT else reply.Done))
 
 abbrev pub after_field : Field → Answer → Answer
 after_field f a =
-    if may_stand f && not (is_full a.fields) && not (is_too_long f a.fields) then with_field f a else a
+    if may_stand f && not (has_most_fields a.fields) && not (is_too_long f a.fields) then with_field f a else a
 
 -- a status that an answer may have
 abbrev pub is_status : ℕ → Bool

@@ -14,7 +14,7 @@ use Rattle.cy_event.specs.Charts.{chart_of, put_cycle, written_out}
 use Rattle.cy_event.specs.Framings.{framings_on_literals}
 use Rattle.cy_event.specs.Heads.{heads_on_literals}
 use Rattle.cy_event.specs.Limits.{standard}
-use Rattle.cy_event.specs.Table.{has_ended, state_after}
+use Rattle.cy_event.specs.Table.{has_request_ended, state_after}
 use Rattle.cy_event.specs.Targets.{targets_on_literals}
 use Rattle.cy_map.specs.declared.rule.Rule.{Rule}
 use Rattle.cy_model.specs.Connections.{connections, own_entries}
@@ -85,7 +85,7 @@ leads_to : map state_after (waits ∷ (waits ++ cycle) ∷ (waits ++ call.Timeou
     ≡ state.Started ∷ state.Started ∷ state.TimingOut ∷ state.Completing ∷ []
 leads_to = refl
 
-ends_with : map has_ended (cycle ∷ (call.Run ∷ call.Fail ∷ []) ∷ waits
+ends_with : map has_request_ended (cycle ∷ (call.Run ∷ call.Fail ∷ []) ∷ waits
     ∷ (waits ++ call.CompleteOther ∷ call.Return ∷ []) ∷ (waits ++ call.CompleteOther ∷ []) ∷ [])
     ≡ true ∷ true ∷ false ∷ true ∷ false ∷ []
 ends_with = refl

@@ -7,7 +7,7 @@ use Rattle.cy_event.specs.AnswerBytes.{answer_bytes, bytes_so_far, content_text,
 use Rattle.cy_event.specs.AnswerModes.{Asked, chunked, counted, until_close, void}
 use Rattle.cy_event.specs.Answers.{fresh_answer, head_text}
 use Rattle.cy_event.specs.Dates.{count_off, date_at}
-use Rattle.cy_event.specs.Pieces.{Mark, content_put, cut_pieces, flushed, is_cut_early, piece_count}
+use Rattle.cy_event.specs.Pieces.{PutOrFlush, content_put, cut_pieces, flushed, is_cut_early, piece_count}
 use Rattle.cy_event.specs.Pieces.{pieces_behind, put, run_pieces, runs_behind}
 
 -- ---- how many pieces: one begins at 0 and at each multiple of 8,192
@@ -28,7 +28,7 @@ sizes_of_runs = refl
 
 -- ---- puts run together, and flushes divide
 
-abbrev marks : List Mark
+abbrev marks : List PutOrFlush
 marks =
     put (codes "ab") ∷ put (codes "c") ∷ flushed ∷ flushed ∷ put (codes "d") ∷ put [] ∷ flushed ∷ put (codes "ef")
     ∷ put (codes "g") ∷ []

@@ -10,7 +10,7 @@ use Rattle.cy_event.specs.declared.steps.State.{State}
 use Rattle.cy_event.specs.declared.steps.State.TheVariants as state
 use Rattle.cy_event.specs.declared.table.Row.{Row}
 use Rattle.cy_event.specs.declared.table.Row.TheVariants.{On, Wake, Ends}
-use Rattle.cy_event.specs.Callbacks.{Context, after_row}
+use Rattle.cy_event.specs.Callbacks.{Context, context_after_row}
 use Rattle.cy_event.specs.Table.{is_end, next_state, row}
 use Rattle.cy_model.specs.Folds.{context_of}
 use Rattle.cy_model.specs.Marks.{Mark, Trace, began, called, listened, read_listener_set, started, timeout_set}
@@ -112,7 +112,7 @@ two timeout deadline = record { listeners = 7 ∷ 8 ∷ []; owed = []; timeout =
 
 -- a call at moment 5, where a start sets 30,000
 abbrev cell : Bool → Bool → Context → State → Call → Context
-cell read write c s k = after_row 30000 5 read write s (row s k) c
+cell read write c s k = context_after_row 30000 5 read write s (row s k) c
 
 abbrev owed_by : Bool → Bool → State → Call → List Job
 owed_by read write s k = (cell read write (two 100 None) s k).owed

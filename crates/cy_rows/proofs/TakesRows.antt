@@ -7,7 +7,7 @@ use Rattle.cy_event.specs.declared.steps.CloseCause.TheVariants as cause
 use Rattle.cy_event.specs.declared.steps.Reply.TheVariants as reply
 use Rattle.cy_event.specs.AnswerModes.{Asked}
 use Rattle.cy_event.specs.Answering.{Answering, after_finish, after_flush, after_length, after_write, beginning, can_cut}
-use Rattle.cy_event.specs.Answering.{flush_reply, is_full, length_reply, with_length, write_reply}
+use Rattle.cy_event.specs.Answering.{flush_reply, is_buffer_full, length_reply, with_length, write_reply}
 use Rattle.cy_event.specs.Answers.{fresh_answer, head_text, takes}
 use Rattle.cy_event.specs.Dates.{count_off, date_at}
 use Rattle.cy_model.specs.Inputs.{room_by}
@@ -115,7 +115,7 @@ room_of_a_cut = refl
 
 -- ---- where content is cut
 
-buffer_isnt_full : map (λ n. is_full (written n fresh).sending) (8191 ∷ 8192 ∷ []) ≡ false ∷ true ∷ []
+buffer_isnt_full : map (λ n. is_buffer_full (written n fresh).sending) (8191 ∷ 8192 ∷ []) ≡ false ∷ true ∷ []
 unfolding head_text date_at count_off digits
 buffer_isnt_full = refl
 

@@ -12,7 +12,7 @@ use Rattle.cy_settings.specs.declared.limit.Limit.TheVariants.{MaxConnections, M
 use Rattle.cy_script.specs.declared.statements.Statement.{Statement}
 use Rattle.cy_script.specs.declared.statements.Statement.TheVariants as statement
 use Rattle.cy_script.specs.Drafts.{IsBounded}
-use Rattle.cy_script.specs.TextLines.{lacks, mode_of, IsNumber, IsWritten}
+use Rattle.cy_script.specs.TextLines.{lacks, async_word, IsNumber, IsWritten}
 use Rattle.cy_script.specs.Reading.{alone, behind_word, is_async, number_field, rule_line, rule_of_part, set_line, set_of, set_to, statement_of, statement_of_word, step_line, word_field, word_of}
 use Rattle.cy_script.specs.Settings.{IsInRange}
 use Rattle.cy_settings.specs.Limits.{limit_greatest, limit_least, limit_name, limit_named, limits}
@@ -129,21 +129,21 @@ set_line_again setting value digits ranged number =
 
 -- ---- rules
 
-mode_is : (word : List ℕ) (can_async : Bool) → is_async word ≡ Some can_async → word ≡ mode_of can_async
+mode_is : (word : List ℕ) (can_async : Bool) → is_async word ≡ Some can_async → word ≡ async_word can_async
 mode_is word can_async h =
-    elim (cond_cases (bytes_eq word (codes "async")) (Some true) _ can_async h) as (λ _. word ≡ mode_of can_async) [
-      | inl async ↦ let is : true ≡ can_async = cc async.1 in same_bytes word (codes "async") async.0 ∙ ap mode_of is
+    elim (cond_cases (bytes_eq word (codes "async")) (Some true) _ can_async h) as (λ _. word ≡ async_word can_async) [
+      | inl async ↦ let is : true ≡ can_async = cc async.1 in same_bytes word (codes "async") async.0 ∙ ap async_word is
       | inr other ↦
           let sync = some_then (bytes_eq word (codes "sync")) (Some false) can_async other.1 in
           let is : false ≡ can_async = cc sync.1 in
-          same_bytes word (codes "sync") sync.0 ∙ ap mode_of is
+          same_bytes word (codes "sync") sync.0 ∙ ap async_word is
     ]
 
-mode_again : (can_async : Bool) → is_async (mode_of can_async) ≡ Some can_async
+mode_again : (can_async : Bool) → is_async (async_word can_async) ≡ Some can_async
 mode_again true = refl
 mode_again false = refl
 
-mode_lacks : (can_async : Bool) → lacks 32 (mode_of can_async) ≡ true
+mode_lacks : (can_async : Bool) → lacks 32 (async_word can_async) ≡ true
 mode_lacks true = refl
 mode_lacks false = refl
 
@@ -187,15 +187,15 @@ rule_line_is fields rule h =
     let first = word_field_is fields pattern.0 pattern.1 in
     let second = number_field_is pattern.0.1 part.0 part.1 in
     let third = word_field_is part.0.1 mode.0 mode.1 in
-    let line = rule_text fields pattern.0.0 pattern.0.1 second.digits part.0.1 mode.0.0 mode.0.1 (mode_of can_async.0) first.parts second.parts third.parts ends.0 (mode_is mode.0.0 can_async.0 can_async.1) in
+    let line = rule_text fields pattern.0.0 pattern.0.1 second.digits part.0.1 mode.0.0 mode.0.1 (async_word can_async.0) first.parts second.parts third.parts ends.0 (mode_is mode.0.0 can_async.0 can_async.1) in
     made_rule fields (rule_made pattern.0.0 part.0.0 can_async.0) whole.0 rule made ends.1 (first.lacks_spaces, leb-true part.0.0 255 known.0, (second.digits, second.number, line))
 
 rule_line_again : (rule : Rule) (digits : List ℕ) → lacks 32 rule.pattern ≡ true → rule.part ≤ 255 → IsNumber digits rule.part
-    → rule_line (32 ∷ (rule.pattern ++ 32 ∷ (digits ++ 32 ∷ mode_of rule.can_async))) ≡ Some rule
+    → rule_line (32 ∷ (rule.pattern ++ 32 ∷ (digits ++ 32 ∷ async_word rule.can_async))) ≡ Some rule
 rule_line_again rule digits word known number =
-    ap (λ (o : Option (List ℕ × List ℕ)). option_and_then rule_by_pattern o) (word_field_then rule.pattern (digits ++ 32 ∷ mode_of rule.can_async) word)
-    ∙ ap (λ (o : Option (ℕ × List ℕ)). option_and_then (rule_by_part rule.pattern) o) (number_field_then digits rule.part (mode_of rule.can_async) number)
-    ∙ ap (λ (o : Option (List ℕ × List ℕ)). option_and_then (rule_by_mode rule.pattern rule.part) o) (word_field_last (mode_of rule.can_async) (mode_lacks rule.can_async))
+    ap (λ (o : Option (List ℕ × List ℕ)). option_and_then rule_by_pattern o) (word_field_then rule.pattern (digits ++ 32 ∷ async_word rule.can_async) word)
+    ∙ ap (λ (o : Option (ℕ × List ℕ)). option_and_then (rule_by_part rule.pattern) o) (number_field_then digits rule.part (async_word rule.can_async) number)
+    ∙ ap (λ (o : Option (List ℕ × List ℕ)). option_and_then (rule_by_mode rule.pattern rule.part) o) (word_field_last (async_word rule.can_async) (mode_lacks rule.can_async))
     ∙ ap (λ (o : Option Bool). option_and_then (λ a. option_and_then (λ r. alone r []) (rule_of_part rule.pattern rule.part a)) o) (mode_again rule.can_async)
     ∙ ap (λ (t : Bool). option_and_then {T = Rule} (λ r. alone r []) (cond t (Some rule) None)) (le-leb _ _ known)
 

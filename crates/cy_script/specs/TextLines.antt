@@ -70,9 +70,9 @@ IsStepLine line (step.Act conn act.Return bytes) = HasNumber line (codes "return
 
 -- ---- rules
 
-abbrev pub mode_of : Bool → List ℕ
-mode_of true = codes "async"
-mode_of false = codes "sync"
+abbrev pub async_word : Bool → List ℕ
+async_word true = codes "async"
+async_word false = codes "sync"
 
 -- ---- statements
 
@@ -82,5 +82,5 @@ IsWritten statement.Nothing line = (line ≡ []) ⊎ ((comment : List ℕ) × (l
 IsWritten (statement.Set setting value) line = IsInRange setting value × HasNumber line (codes "set" ∷ limit_name setting ∷ []) value []
 IsWritten statement.NoLimit line = line ≡ codes "set maxKeepAliveRequests -1"
 IsWritten (statement.Rule rule) line =
-    (lacks space rule.pattern ≡ true) × (rule.part ≤ most_part) × HasNumber line (codes "rule" ∷ rule.pattern ∷ []) rule.part (mode_of rule.can_async ∷ [])
+    (lacks space rule.pattern ≡ true) × (rule.part ≤ most_part) × HasNumber line (codes "rule" ∷ rule.pattern ∷ []) rule.part (async_word rule.can_async ∷ [])
 IsWritten (statement.Step s) line = IsStepLine line s

@@ -9,7 +9,7 @@ use Rattle.std.proofs.lemmas.List.Folds.{list_any-append}
 use Rattle.std.proofs.Math.Seq.{take-append_seam}
 use Rattle.cy_map.specs.declared.rule.Rule.{Rule}
 use Rattle.cy_map.specs.Patterns.{is_pattern}
-use Rattle.cy_map.specs.Refusals.{earlier, IsTaken}
+use Rattle.cy_map.specs.Refusals.{earlier_rule, IsTaken}
 use Rattle.cy_map.proofs.Repeats.{earlier_past}
 use Rattle.cy_settings.specs.Rules.{has_pattern, is_next_rule, AreRules}
 
@@ -70,12 +70,12 @@ slice_get-seam (y ∷ xs) x ys = slice_get-seam xs x ys
 abbrev found_before : List Rule → Option Rule → Option ℕ
 found_before front here = option_and_then (λ rule. position (λ other. bytes_eq other.pattern rule.pattern) front) here
 
-earlier_front : (rules more : List Rule) (place : ℕ) → place < length rules → earlier (rules ++ more) place ≡ earlier rules place
+earlier_front : (rules more : List Rule) (place : ℕ) → place < length rules → earlier_rule (rules ++ more) place ≡ earlier_rule rules place
 earlier_front rules more place within =
     ap (found_before (take place (rules ++ more))) (slice_get-front rules more place within)
     ∙ ap (λ (front : List Rule). found_before front (slice_get rules place)) (take-append-le place rules more (omega arith))
 
-earlier_seam : (rules : List Rule) (rule : Rule) (more : List Rule) → earlier (rules ++ rule ∷ more) (length rules) ≡ position (λ other. bytes_eq other.pattern rule.pattern) rules
+earlier_seam : (rules : List Rule) (rule : Rule) (more : List Rule) → earlier_rule (rules ++ rule ∷ more) (length rules) ≡ position (λ other. bytes_eq other.pattern rule.pattern) rules
 earlier_seam rules rule more =
     ap (found_before (take (length rules) (rules ++ rule ∷ more))) (slice_get-seam rules rule more)
     ∙ ap (λ (front : List Rule). found_before front (Some rule)) (take-append_seam rules (rule ∷ more))
@@ -97,7 +97,7 @@ one_more_taken rules rule taken pattern fresh = record {
           | inl past ↦ earlier_past (rules ++ rule ∷ []) place (omega (arith, length-append rules (rule ∷ []), ltb-true _ _ past))
           | inr most ↦
               let at : length rules ≡ place = omega (arith, ltb-false _ _ least, ltb-false _ _ most) in
-              subst (λ (n : ℕ). earlier (rules ++ rule ∷ []) n ≡ None) at (earlier_seam rules rule [] ∙ position_none (λ other. bytes_eq other.pattern rule.pattern) rules fresh)
+              subst (λ (n : ℕ). earlier_rule (rules ++ rule ∷ []) n ≡ None) at (earlier_seam rules rule [] ∙ position_none (λ other. bytes_eq other.pattern rule.pattern) rules fresh)
         ]
       ];
 }

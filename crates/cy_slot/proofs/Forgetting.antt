@@ -11,7 +11,7 @@ use Rattle.cy_model.specs.Replies.{Replied, plain, replied_in}
 use Rattle.cy_model.specs.Settling.{rested, taken_up}
 use Rattle.cy_proc.specs.Lines.{LineParts, Represents, line_parts}
 use Rattle.cy_proc.specs.ProcessorAnswers.{Answers, Serves, TakesUp, is_ended}
-use Rattle.cy_proc.specs.Processors.{ProcessorParts, StandsFor, fresh_processor, is_free_at, is_open_at, processor_parts, request_folds}
+use Rattle.cy_proc.specs.Processors.{ProcessorParts, StandsForRequest, fresh_processor, is_free_at, is_open_at, processor_parts, request_folds}
 use Rattle.cy_slot.specs.declared.conn.Conn.{Conn}
 use Rattle.cy_slot.specs.declared.slot.TheConstants.{GREATEST_TENANCY}
 use Rattle.cy_slot.specs.Slots.{SlotParts, fresh_slot, line_in, line_of, released, with_state}
@@ -23,12 +23,12 @@ use Rattle.cy_slot.specs.Courses.{AreTwins, OwnCall, IsCalled, IsCourse, IsOpeni
 same_line : (R : Trace) (l m : LineParts) → Represents R l → Represents R m → l.moment ≡ m.moment → l ≡ m
 same_line R l m of_l of_m e = of_l.same ∙ ap (λ (n : ℕ). line_parts n R) e ∙ sym of_m.same
 
-of_last_request : (R : Trace) (p : ProcessorParts) → is_free_at p.stage ≡ false → StandsFor R p → p ≡ processor_parts p.limits (request_folds R)
+of_last_request : (R : Trace) (p : ProcessorParts) → is_free_at p.stage ≡ false → StandsForRequest R p → p ≡ processor_parts p.limits (request_folds R)
 of_last_request R p not_free (inl own) = own.same
 of_last_request R p not_free (inr none) =
     absurd (true≢false (sym (ap (λ (q : ProcessorParts). is_free_at q.stage) none.fresh) ∙ not_free))
 
-same_processor : (R : Trace) (p q : ProcessorParts) → StandsFor R p → StandsFor R q → is_free_at p.stage ≡ false → is_free_at q.stage ≡ false → p.limits ≡ q.limits → p ≡ q
+same_processor : (R : Trace) (p q : ProcessorParts) → StandsForRequest R p → StandsForRequest R q → is_free_at p.stage ≡ false → is_free_at q.stage ≡ false → p.limits ≡ q.limits → p ≡ q
 same_processor R p q of_p of_q busy_p busy_q e =
     of_last_request R p busy_p of_p ∙ ap (λ (k : Limits). processor_parts k (request_folds R)) e ∙ sym (of_last_request R q busy_q of_q)
 

@@ -7,7 +7,7 @@ use Rattle.cy_event.specs.declared.steps.Call.TheVariants as call
 use Rattle.cy_event.specs.declared.steps.State.{State}
 use Rattle.cy_event.specs.declared.steps.State.TheVariants as state
 use Rattle.cy_event.specs.declared.table.Row.{Row}
-use Rattle.cy_event.specs.Table.{row, next_state, is_end, IsLegalFrom, IsLegal, state_from, state_after, ends_from, has_ended}
+use Rattle.cy_event.specs.Table.{row, next_state, is_end, IsLegalFrom, IsLegal, state_from, state_after, ends_from, has_request_ended}
 use Rattle.cy_event.proofs.Histories.{first_has_row, rest_is_legal, back_is_legal, front_is_legal, state_from-append, ends_from-append, nothing_follows_an_end}
 use Rattle.cy_states.specs.Rules.{implies, is_coming_back, is_complete, is_completed, is_from_other, is_in_callback, is_pending, may_end}
 use Rattle.cy_states.specs.Laws.{CompleteDecides, OnlyReturnsEnd, OthersWaitForTheCallback}
@@ -111,15 +111,15 @@ complete_decides ks js k complete legal =
     }
 
 -- a history that goes on hasn't ended
-goes_on_open : (ks : List Call) (k : Call) (b : Bool) → has_ended ks ≡ b → IsLegal (ks ++ k ∷ []) → has_ended ks ≡ false
+goes_on_open : (ks : List Call) (k : Call) (b : Bool) → has_request_ended ks ≡ b → IsLegal (ks ++ k ∷ []) → has_request_ended ks ≡ false
 goes_on_open ks k true e legal = let none = nothing_follows_an_end state.Dispatched ks (k ∷ []) legal e in cc
 goes_on_open ks k false e legal = e
 
 -- a call that ends nothing leaves the request open
-open_after : (ks : List Call) (k : Call) → IsLegal (ks ++ k ∷ []) → is_end (row (state_after ks) k) ≡ false → has_ended (ks ++ k ∷ []) ≡ false
+open_after : (ks : List Call) (k : Call) → IsLegal (ks ++ k ∷ []) → is_end (row (state_after ks) k) ≡ false → has_request_ended (ks ++ k ∷ []) ≡ false
 open_after ks k legal no_end =
     ends_from-append state.Dispatched ks (k ∷ [])
-    ∙ or_from (has_ended ks) (ends_from (state_after ks) (k ∷ [])) (goes_on_open ks k (has_ended ks) refl legal) (or_from (is_end (row (state_after ks) k)) false no_end refl)
+    ∙ or_from (has_request_ended ks) (ends_from (state_after ks) (k ∷ [])) (goes_on_open ks k (has_request_ended ks) refl legal) (or_from (is_end (row (state_after ks) k)) false no_end refl)
 
 -- what a pending state says of a call that is accepted
 waits : (s : State) (j : Call) → is_pending s ≡ true → IsSome (row s j) → (is_coming_back j ≡ true) × (not (is_end (row s j)) ≡ true)

@@ -8,21 +8,21 @@ use Rattle.cy_event.specs.declared.table.Row.{Row}
 use Rattle.cy_event.specs.declared.table.Row.TheVariants.{On, Wake, Ends}
 use Rattle.cy_event.specs.Charts.{chart_of}
 use Rattle.cy_event.specs.Table as table
-use Rattle.cy_event.specs.Table.{row, is_end, next_state, IsLegal, state_after, has_ended, ends_from}
+use Rattle.cy_event.specs.Table.{row, is_end, next_state, IsLegal, state_after, has_request_ended, ends_from}
 use Rattle.cy_event.proofs.Histories.{ends_from-append, legal_more, state_from-append}
 use Rattle.cy_states.specs.Laws.{RequestsAreLegal, accepted_from, after_calls}
-use Rattle.cy_states.specs.Progress.{IsSound, Progress, StandsFor, after_call, progress_after, fresh, progress_of, with_accepted, with_call}
+use Rattle.cy_states.specs.Progress.{IsLegalProgress, Progress, IsLeftBy, after_call, progress_after, fresh, progress_of, with_accepted, with_call}
 use Rattle.cy_states.proofs.ChartsMore.{chart_more}
 
 same_progress : (s t : State) (a b : Bool) (x y : List ChartItem) → s ≡ t → a ≡ b → x ≡ y → (let p : Progress = record { state = s; is_ended = a; chart = x } in let q : Progress = record { state = t; is_ended = b; chart = y } in p ≡ q)
 same_progress s t a b x y e f g = cc
 
 -- what an accepted call leaves
-more_left : (ks : List Call) (k : Call) (r : Row) → IsLegal ks → has_ended ks ≡ false → row (state_after ks) k ≡ Some r → progress_after (Some r) (progress_of ks) k ≡ progress_of (ks ++ k ∷ [])
+more_left : (ks : List Call) (k : Call) (r : Row) → IsLegal ks → has_request_ended ks ≡ false → row (state_after ks) k ≡ Some r → progress_after (Some r) (progress_of ks) k ≡ progress_of (ks ++ k ∷ [])
 more_left ks k r legal unended is =
     let state_is : state_after (ks ++ k ∷ []) ≡ table.after_row (state_after ks) (Some r) =
     state_from-append state.Dispatched ks (k ∷ []) ∙ ap (λ (o : Option Row). table.after_row (state_after ks) o) is in
-    let end_is : has_ended (ks ++ k ∷ []) ≡ is_end (Some r) =
+    let end_is : has_request_ended (ks ++ k ∷ []) ≡ is_end (Some r) =
     ends_from-append state.Dispatched ks (k ∷ [])
     ∙ ap (λ (b : Bool). b || ends_from (state_after ks) (k ∷ [])) unended
     ∙ ap (λ (o : Option Row). is_end o || false) is
@@ -36,13 +36,13 @@ more_left ks k r legal unended is =
     chart_is : chart_of (ks ++ k ∷ []) ≡ with_call (state_after ks) k (chart_of ks)
     chart_is = chart_more state.Dispatched ks k legal
 
-    by_row : (q : Row) → state_after (ks ++ k ∷ []) ≡ table.after_row (state_after ks) (Some q) → has_ended (ks ++ k ∷ []) ≡ is_end (Some q) → progress_after (Some q) (progress_of ks) k ≡ progress_of (ks ++ k ∷ [])
-    by_row (On t) e f = same_progress t (state_after (ks ++ k ∷ [])) false (has_ended (ks ++ k ∷ [])) (with_call (state_after ks) k (chart_of ks)) (chart_of (ks ++ k ∷ [])) (sym e) (sym f) (sym chart_is)
-    by_row (Wake t) e f = same_progress t (state_after (ks ++ k ∷ [])) false (has_ended (ks ++ k ∷ [])) (with_call (state_after ks) k (chart_of ks)) (chart_of (ks ++ k ∷ [])) (sym e) (sym f) (sym chart_is)
-    by_row Ends e f = same_progress (state_after ks) (state_after (ks ++ k ∷ [])) true (has_ended (ks ++ k ∷ [])) (with_call (state_after ks) k (chart_of ks)) (chart_of (ks ++ k ∷ [])) (sym e) (sym f) (sym chart_is)
+    by_row : (q : Row) → state_after (ks ++ k ∷ []) ≡ table.after_row (state_after ks) (Some q) → has_request_ended (ks ++ k ∷ []) ≡ is_end (Some q) → progress_after (Some q) (progress_of ks) k ≡ progress_of (ks ++ k ∷ [])
+    by_row (On t) e f = same_progress t (state_after (ks ++ k ∷ [])) false (has_request_ended (ks ++ k ∷ [])) (with_call (state_after ks) k (chart_of ks)) (chart_of (ks ++ k ∷ [])) (sym e) (sym f) (sym chart_is)
+    by_row (Wake t) e f = same_progress t (state_after (ks ++ k ∷ [])) false (has_request_ended (ks ++ k ∷ [])) (with_call (state_after ks) k (chart_of ks)) (chart_of (ks ++ k ∷ [])) (sym e) (sym f) (sym chart_is)
+    by_row Ends e f = same_progress (state_after ks) (state_after (ks ++ k ∷ [])) true (has_request_ended (ks ++ k ∷ [])) (with_call (state_after ks) k (chart_of ks)) (chart_of (ks ++ k ∷ [])) (sym e) (sym f) (sym chart_is)
 
 -- the case of an ended request, and then of each row
-by_case : (ks : List Call) (k : Call) (b : Bool) (o : Option Row) → IsLegal ks → has_ended ks ≡ b → row (state_after ks) k ≡ o → StandsFor (progress_after (cond b None o) (progress_of ks) k) (cond (is_some (cond b None o)) (ks ++ k ∷ []) ks)
+by_case : (ks : List Call) (k : Call) (b : Bool) (o : Option Row) → IsLegal ks → has_request_ended ks ≡ b → row (state_after ks) k ≡ o → IsLeftBy (progress_after (cond b None o) (progress_of ks) k) (cond (is_some (cond b None o)) (ks ++ k ∷ []) ks)
 by_case ks k true o legal ended is = record { legal = legal; left = refl }
 by_case ks k false None legal ended is = record { legal = legal; left = refl }
 by_case ks k false (Some r) legal ended is = record {
@@ -50,21 +50,21 @@ by_case ks k false (Some r) legal ended is = record {
   left = more_left ks k r legal ended is;
 }
 
-pub stands_more : (p : Progress) (k : Call) (ks : List Call) → StandsFor p ks → StandsFor (after_call p k) (with_accepted p k ks)
+pub stands_more : (p : Progress) (k : Call) (ks : List Call) → IsLeftBy p ks → IsLeftBy (after_call p k) (with_accepted p k ks)
 stands_more p k ks stands =
-    subst (λ (q : Progress). StandsFor (after_call q k) (with_accepted q k ks)) (sym stands.left)
-    (by_case ks k (has_ended ks) (row (state_after ks) k) stands.legal refl refl)
+    subst (λ (q : Progress). IsLeftBy (after_call q k) (with_accepted q k ks)) (sym stands.left)
+    (by_case ks k (has_request_ended ks) (row (state_after ks) k) stands.legal refl refl)
 
-pub fresh_stands : StandsFor fresh []
+pub fresh_stands : IsLeftBy fresh []
 fresh_stands = record { legal = tt; left = refl }
 
-pub fresh_is_sound : IsSound fresh
+pub fresh_is_sound : IsLegalProgress fresh
 fresh_is_sound = ([], fresh_stands)
 
-pub sound_more : (p : Progress) (k : Call) → IsSound p → IsSound (after_call p k)
+pub sound_more : (p : Progress) (k : Call) → IsLegalProgress p → IsLegalProgress (after_call p k)
 sound_more p k sound = (with_accepted p k sound.0, stands_more p k sound.0 sound.1)
 
-pub calls_stand : (p : Progress) (accepted ks : List Call) → StandsFor p accepted → StandsFor (after_calls p ks) (accepted_from p accepted ks)
+pub calls_stand : (p : Progress) (accepted ks : List Call) → IsLeftBy p accepted → IsLeftBy (after_calls p ks) (accepted_from p accepted ks)
 calls_stand p accepted [] stands = stands
 calls_stand p accepted (k ∷ ks) stands = calls_stand (after_call p k) (with_accepted p k accepted) ks (stands_more p k accepted stands)
 
@@ -79,9 +79,9 @@ accepted_as p q k r unended is left =
     ∙ ap (λ (o : Option Row). progress_after o p k) is
     ∙ left
 
-pub sound_as : (p q : Progress) (k : Call) (r : Row) → p.is_ended ≡ false → row p.state k ≡ Some r → progress_after (Some r) p k ≡ q → IsSound p → IsSound q
-sound_as p q k r unended is left sound = subst IsSound (accepted_as p q k r unended is left) (sound_more p k sound)
+pub sound_as : (p q : Progress) (k : Call) (r : Row) → p.is_ended ≡ false → row p.state k ≡ Some r → progress_after (Some r) p k ≡ q → IsLegalProgress p → IsLegalProgress q
+sound_as p q k r unended is left sound = subst IsLegalProgress (accepted_as p q k r unended is left) (sound_more p k sound)
 
-pub stands_as : (p q : Progress) (k : Call) (r : Row) → p.is_ended ≡ false → row p.state k ≡ Some r → progress_after (Some r) p k ≡ q → (ks : List Call) → StandsFor p ks → StandsFor q (with_accepted p k ks)
+pub stands_as : (p q : Progress) (k : Call) (r : Row) → p.is_ended ≡ false → row p.state k ≡ Some r → progress_after (Some r) p k ≡ q → (ks : List Call) → IsLeftBy p ks → IsLeftBy q (with_accepted p k ks)
 stands_as p q k r unended is left ks stands =
-    subst (λ (v : Progress). StandsFor v (with_accepted p k ks)) (accepted_as p q k r unended is left) (stands_more p k ks stands)
+    subst (λ (v : Progress). IsLeftBy v (with_accepted p k ks)) (accepted_as p q k r unended is left) (stands_more p k ks stands)

@@ -3,8 +3,8 @@ use Rattle.std.specs.Prelude.{◌≡◌, ◌≤◌, false, None, IsTrue, List, [
 use Rattle.cy_event.specs.declared.steps.Call.{Call}
 use Rattle.cy_event.specs.declared.steps.State.{State}
 use Rattle.cy_event.specs.Charts.{chart_of, written_out, IsExact}
-use Rattle.cy_event.specs.Table.{row, is_end, IsLegal, state_after, has_ended}
-use Rattle.cy_states.specs.Progress.{Progress, StandsFor, after_call, fresh, with_accepted}
+use Rattle.cy_event.specs.Table.{row, is_end, IsLegal, state_after, has_request_ended}
+use Rattle.cy_states.specs.Progress.{Progress, IsLeftBy, after_call, fresh, with_accepted}
 use Rattle.cy_states.specs.Rules.{is_coming_back, is_complete, is_completed, is_from_other, is_in_callback, keeps_rules, may_end}
 
 -- every cell of the table keeps the rules
@@ -17,7 +17,7 @@ OnlyReturnsEnd = (s : State) (k : Call) → IsTrue (is_end (row s k)) → IsTrue
 
 -- after its end, no call is accepted in a request
 abbrev pub NothingFollowsAnEnd : Type 0
-NothingFollowsAnEnd = (ks js : List Call) → IsLegal (ks ++ js) → IsTrue (has_ended ks) → js ≡ []
+NothingFollowsAnEnd = (ks js : List Call) → IsLegal (ks ++ js) → IsTrue (has_request_ended ks) → js ≡ []
 
 -- what a complete decides, of the calls js that were accepted after it
 pub record IsDecided (before js : List Call) : Type 0 where
@@ -34,9 +34,9 @@ CompleteDecides = (ks js : List Call) (k : Call) → IsTrue (is_complete k) → 
 -- The request hasn't ended; the call that is accepted next is that the running callback comes back, and doesn't end it
 -- either.
 pub record IsWaiting (before : List Call) : Type 0 where
-  pub unended : has_ended before ≡ false
+  pub unended : has_request_ended before ≡ false
   pub next : (j : Call) → IsLegal (before ++ j ∷ []) → IsTrue (is_coming_back j)
-  pub still : (j : Call) → IsLegal (before ++ j ∷ []) → has_ended (before ++ j ∷ []) ≡ false
+  pub still : (j : Call) → IsLegal (before ++ j ∷ []) → has_request_ended (before ++ j ∷ []) ≡ false
 
 -- a complete or dispatch of another thread in STARTING or READ_WRITE_OP ends nothing before the callback came back
 abbrev pub OthersWaitForTheCallback : Type 0
@@ -59,4 +59,4 @@ accepted_from p accepted (k ∷ ks) = accepted_from (after_call p k) (with_accep
 
 -- the chart is that of the accepted calls, which are legal and lead to the state
 abbrev pub RequestsAreLegal : Type 0
-RequestsAreLegal = (ks : List Call) → StandsFor (after_calls fresh ks) (accepted_from fresh [] ks)
+RequestsAreLegal = (ks : List Call) → IsLeftBy (after_calls fresh ks) (accepted_from fresh [] ks)

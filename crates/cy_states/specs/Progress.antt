@@ -11,7 +11,7 @@ use Rattle.cy_event.specs.declared.table.ChartItem.TheVariants.{One, Cycles}
 use Rattle.cy_event.specs.declared.table.Row.{Row}
 use Rattle.cy_event.specs.declared.table.Row.TheVariants.{On, Wake, Ends}
 use Rattle.cy_event.specs.Charts.{chart_of, most_cycles}
-use Rattle.cy_event.specs.Table.{row, IsLegal, state_after, has_ended}
+use Rattle.cy_event.specs.Table.{row, IsLegal, state_after, has_request_ended}
 
 -- the state, whether the request has ended, and the chart so far
 pub record Progress : Type 0 where
@@ -76,16 +76,16 @@ after_call p k = progress_after (row_at p k) p k
 
 -- the progress that a list of accepted calls leaves, the first first
 abbrev pub progress_of : List Call → Progress
-progress_of ks = record { state = state_after ks; is_ended = has_ended ks; chart = chart_of ks }
+progress_of ks = record { state = state_after ks; is_ended = has_request_ended ks; chart = chart_of ks }
 
 -- it is what a legal list of calls leaves
-pub record StandsFor (p : Progress) (ks : List Call) : Type 0 where
+pub record IsLeftBy (p : Progress) (ks : List Call) : Type 0 where
   pub legal : IsLegal ks
   pub left : p ≡ progress_of ks
 
 -- some legal list of calls leaves it
-abbrev pub IsSound : Progress → Type 0
-IsSound p = (ks : List Call) × StandsFor p ks
+abbrev pub IsLegalProgress : Progress → Type 0
+IsLegalProgress p = (ks : List Call) × IsLeftBy p ks
 
 -- the accepted calls with one more call, which counts where it is accepted
 abbrev pub with_accepted : Progress → Call → List Call → List Call

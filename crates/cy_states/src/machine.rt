@@ -1,7 +1,7 @@
 //! One request's way through the state table.
 ghost use Rattle.std.specs.Prelude.{◌≡◌, ◌≤◌, ◌<◌, IfOk, List, Some, length, slice_get, vec_capacity};
 ghost use Rattle.cy_event.specs.declared.steps.Call.{Call};
-ghost use Rattle.cy_states.specs.Progress.{IsSound, Progress, StandsFor, after_call, answer_to, fresh, last_item, with_accepted, with_call, with_cycle, with_return};
+ghost use Rattle.cy_states.specs.Progress.{IsLegalProgress, Progress, IsLeftBy, after_call, answer_to, fresh, last_item, with_accepted, with_call, with_cycle, with_return};
 
 use crate::table::row_of;
 use cy_event::{Call, ChartItem, Reply, Row, State};
@@ -26,13 +26,13 @@ pub struct Machine {
 impl Model for Machine {
     ghost use Rattle.std.specs.Prelude.{◌≤◌, vec_capacity};
     ghost use Rattle.cy_states.specs.declared.machine.TheConstants.{MOST_ITEMS};
-    ghost use Rattle.cy_states.specs.Progress.{IsSound, Progress};
+    ghost use Rattle.cy_states.specs.Progress.{IsLegalProgress, Progress};
 
     ghost Value = { Progress };
 
     ghost view = { λ m. record { state = m.state; is_ended = m.is_ended; chart = m.items.items } };
 
-    ghost invariant = { λ m. (MOST_ITEMS ≤ vec_capacity m.items) × IsSound (record { state = m.state; is_ended = m.is_ended; chart = m.items.items }) };
+    ghost invariant = { λ m. (MOST_ITEMS ≤ vec_capacity m.items) × IsLegalProgress (record { state = m.state; is_ended = m.is_ended; chart = m.items.items }) };
 }
 
 impl Machine {
@@ -56,7 +56,7 @@ impl Machine {
         ensures after { self.new ≡ after_call self.old call }
 
         // For every list of accepted calls that it stood for.
-        ensures history { (ks : List Call) → StandsFor self.old ks → StandsFor self.new (with_accepted self.old call ks) }
+        ensures history { (ks : List Call) → IsLeftBy self.old ks → IsLeftBy self.new (with_accepted self.old call ks) }
     {
         if self.is_ended {
             return Reply::Illegal(self.state);
@@ -98,7 +98,7 @@ impl Machine {
     /// How many items the chart has.
     pub fn chart_len(&self) -> usize
         ensures len { result ≡ length self.now.chart }
-        ensures sound { IsSound self.now }
+        ensures sound { IsLegalProgress self.now }
     {
         self.items.len()
     }

@@ -13,7 +13,7 @@ use Rattle.cy_event.specs.Charts.{chart_of}
 use Rattle.cy_event.specs.declared.steps.Call.{Call}
 use Rattle.cy_proc.specs.Lines.{LineParts}
 use Rattle.cy_proc.specs.ProcessorAnswers.{ended_items}
-use Rattle.cy_proc.specs.Processors.{ProcessorParts, StandsFor, is_open_at, is_over_at}
+use Rattle.cy_proc.specs.Processors.{ProcessorParts, StandsForRequest, is_open_at, is_over_at}
 use Rattle.cy_proc.proofs.Lines.{plainly}
 use Rattle.cy_proc.proofs.Requests.{stands_open, stands_request}
 use Rattle.cy_states.specs.Progress.{Progress, progress_of}
@@ -182,7 +182,7 @@ open_told ks T cs progress o called same kept =
     ∙ sym (map-append chart_of (ended_charts T) (calls T ∷ []))
     ∙ ap (map chart_of) (sym (ap (λ (v : Bool). if v then ended_charts T ++ calls T ∷ [] else ended_charts T) o))
 
-pub charts_told : (v : Bool) (T : Trace) (cs : List (List ChartItem)) (q : ProcessorParts) → is_open_at q.stage ≡ v → StandsFor T q → cs ≡ ended_items T → (if v then cs ++ q.progress.chart ∷ [] else cs) ≡ map chart_of (charts T)
+pub charts_told : (v : Bool) (T : Trace) (cs : List (List ChartItem)) (q : ProcessorParts) → is_open_at q.stage ≡ v → StandsForRequest T q → cs ≡ ended_items T → (if v then cs ++ q.progress.chart ∷ [] else cs) ≡ map chart_of (charts T)
 charts_told true T cs q o s same =
     let w = stands_request T q o s in
     open_told (calls T) T cs q.progress (stands_open T q s ∙ o) refl (ap (λ (k : ProcessorParts). k.progress) w.same) same

@@ -17,8 +17,8 @@ pub returns-then-expected-2 : goal.returns-then-expected-2
 returns-then-expected-2 c =
     let minor = c.args.head.now.head.minor in
     let fields = c.args.head.now.head.fields in
-    all_is_told minor fields c.in_ok-body.body c.expected_by-expected.result.other c.is_kept.result c.has_body.result c.in_ok-body.ensures
-    c.expected_by-expected.ensures.other c.if-expected.false c.is_kept.ensures
+    all_is_told minor fields c.in_ok-body.body c.expected_by-expected.result.other c.persists.result c.has_body.result c.in_ok-body.ensures
+    c.expected_by-expected.ensures.other c.if-expected.false c.persists.ensures
     (awaited minor (expectations fields) c.in_ok-body.body c.expected_by-expected.result.go_on c.has_body.result c.expected_by-expected.ensures.go_on
     c.if-expected-2.true c.has_body.ensures)
 
@@ -26,6 +26,6 @@ pub returns-else-expected-2 : goal.returns-else-expected-2
 returns-else-expected-2 c =
     let minor = c.args.head.now.head.minor in
     let fields = c.args.head.now.head.fields in
-    all_is_told minor fields c.in_ok-body.body c.expected_by-expected.result.other c.is_kept.result c.expected_by-expected.result.go_on c.in_ok-body.ensures
-    c.expected_by-expected.ensures.other c.if-expected.false c.is_kept.ensures
+    all_is_told minor fields c.in_ok-body.body c.expected_by-expected.result.other c.persists.result c.expected_by-expected.result.go_on c.in_ok-body.ensures
+    c.expected_by-expected.ensures.other c.if-expected.false c.persists.ensures
     (not_awaited minor (expectations fields) c.in_ok-body.body c.expected_by-expected.result.go_on c.expected_by-expected.ensures.go_on c.if-expected-2.false)

@@ -1,9 +1,9 @@
--- What the tactics leave of the proof of `is_kept`.
+-- What the tactics leave of the proof of `persists`.
 use Rattle.std.proofs.Common.{◌∙◌, codes}
 use Rattle.cy_event.specs.Heads.{values_of}
 use Rattle.cy_event.specs.Framings.{elements_of}
 use Rattle.cy_framing.proofs.WordLemmas.{kept_is}
-use Rattle.cy_framing.proofs.connection.is_kept.Goals as goal
+use Rattle.cy_framing.proofs.connection.persists.Goals as goal
 
 pub returns : goal.returns
 returns c =
