@@ -16,7 +16,8 @@ use Rattle.cy_model.specs.Outputs.{is_aborted, is_committed}
 use Rattle.cy_model.specs.Settling.{Due, Move, cause_and_fault, due_move, due_of, first_move, head_move, last_answer_marks, nothing, not_found, quiet_moves, refusal, request, return_marks_in, settled, with_marks}
 use Rattle.cy_model.specs.Verdicts.{not_found_status}
 use Rattle.cy_model.proofs.Moves.{quiet_cases}
-use Rattle.cy_model.proofs.Settlings.{earlier_move, head_move-parts, last_move, settled-keeps-by}
+use Rattle.cy_model.proofs.LeftToDo.{earlier_move, head_move-parts, last_move}
+use Rattle.cy_model.proofs.Settlings.{settled-keeps-by}
 
 -- ---- each move
 

@@ -1,6 +1,7 @@
 pub mod WorkedExample
 pub mod Repeats
 pub mod Moves
+pub mod LeftToDo
 pub mod Settlings
 pub mod DatesStated
 pub mod LegalRuns

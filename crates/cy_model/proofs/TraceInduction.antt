@@ -26,7 +26,8 @@ use Rattle.cy_model.specs.Outputs.{answer_of, is_committed, is_gone}
 use Rattle.cy_model.specs.Settling.{Due, cause_and_fault, front_of, is_quiet, last_answer_marks, return_marks_in, settled, with_marks, may_begin, nothing, refusal, not_found, request, due_move, due_of, head_move}
 use Rattle.cy_model.specs.Verdicts.{not_found_status}
 use Rattle.cy_model.proofs.Moves.{IsCauseMove, IsEndMove}
-use Rattle.cy_model.proofs.Settlings.{DueTakes, KeepsQuietMoves, due_takes, head_move-parts, settled-keeps-by}
+use Rattle.cy_model.proofs.LeftToDo.{DueTakes, due_takes, head_move-parts}
+use Rattle.cy_model.proofs.Settlings.{KeepsQuietMoves, settled-keeps-by}
 
 -- the marks of a request that no rule serves
 abbrev pub not_found_marks : TakenUp → List Mark

@@ -13,7 +13,7 @@ use Rattle.cy_out.specs.Calls.{Call, Change, UnderWay, aborts, adds_header, afte
 use Rattle.cy_out.specs.Exchanges.{is_out}
 use Rattle.cy_out.specs.Laws.{AllCallsKeepTheHead, IsWithinLimits}
 use Rattle.cy_out.proofs.CallsFindRoom.{field_within, status_within}
-use Rattle.cy_out.proofs.CallsOneAnswer.{error_in_place}
+use Rattle.cy_out.proofs.AnswerCourses.{error_in_place}
 
 record MaySet (head : Answer) : Type 0 where
   within : IsWithinLimits head

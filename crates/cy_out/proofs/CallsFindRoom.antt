@@ -13,7 +13,7 @@ use Rattle.cy_out.specs.Calls.{Call, Change, UnderWay, aborts, adds_header, afte
 use Rattle.cy_out.specs.Exchanges.{is_out}
 use Rattle.cy_out.specs.Kept.{finish_room}
 use Rattle.cy_out.specs.Laws.{AllCallsFindRoom, IsWithinLimits, IsWithinWords}
-use Rattle.cy_out.proofs.CallsOneAnswer.{error_is_short, error_in_place}
+use Rattle.cy_out.proofs.AnswerCourses.{error_is_short, error_in_place}
 use Rattle.cy_out.proofs.RoomKept.{Fits, act_fits, beginnings_find_room, finish_fits}
 
 -- a head that a component may set, and an answer whose end fits

@@ -11,7 +11,9 @@ use Rattle.cy_out.specs.Exchanges.{Act, Exchange, after_act, flushes, is_out, ma
 use Rattle.cy_event.specs.AnswerBytes.{known_length}
 use Rattle.cy_out.specs.Laws.{AllCallsFrameAlike, AreFramedAlike, asked_by, framing_under_way, length_under_way}
 use Rattle.cy_event.specs.Pieces.{content_put, is_cut_early}
-use Rattle.cy_out.proofs.CallsOneAnswer.{Course, Unsent, abort_changes_nothing, act_outside, begins, call_course, error_in_place, moment_inside, moment_outside, refused, unsent_is}
+use Rattle.cy_out.proofs.AnswerCourses.{Course, Unsent, abort_changes_nothing, error_in_place, refused, unsent_is}
+use Rattle.cy_out.proofs.CallCourses.{act_outside, call_course, moment_inside, moment_outside}
+use Rattle.cy_out.proofs.CallsOneAnswer.{begins}
 use Rattle.cy_out.proofs.HeadsAlike.{acts_alike, both_in, both_out, cut_commits, push_keeps}
 use Rattle.cy_out.proofs.LawLemmas.{aborted_is_void}
 use Rattle.cy_out.proofs.MarkLemmas.{abort_keeps_asked, act_keeps_asked, early_stays}

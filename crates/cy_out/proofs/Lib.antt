@@ -13,6 +13,8 @@ pub mod RoomKept
 pub mod UncutAnswers
 pub mod HeadsAlike
 pub mod CutsSoFar
+pub mod AnswerCourses
+pub mod CallCourses
 pub mod CallsOneAnswer
 pub mod CallsFindRoom
 pub mod CallHeads

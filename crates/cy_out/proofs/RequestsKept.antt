@@ -8,7 +8,7 @@ use Rattle.cy_respond.specs.Fields.{is_status}
 use Rattle.cy_out.specs.Calls.{Call, Change, UnderWay, aborts, adds_header, after_call, after_calls, changed, changes, does, puts_error, resets, sending, sets_close, sets_length, sets_status}
 use Rattle.cy_out.specs.Exchanges.{is_out}
 use Rattle.cy_out.specs.Laws.{IsNoClose, RequestsAreKept}
-use Rattle.cy_out.proofs.CallsOneAnswer.{error_in_place}
+use Rattle.cy_out.proofs.AnswerCourses.{error_in_place}
 use Rattle.cy_out.proofs.MarkLemmas.{abort_keeps_asked, act_keeps_asked}
 
 change_keeps : (change : Change) (u : UnderWay) → (sending (changed change u)).asked ≡ (sending u).asked

@@ -2,5 +2,7 @@ pub mod Built
 pub mod Plain
 pub mod Lines
 pub mod Requests
+mod TurnParts
+mod ActParts
 mod Openings
 mod AnswerParts

@@ -27,7 +27,7 @@ use Rattle.cy_model.specs.Unbuilt.{is_unbuilt_request}
 use Rattle.cy_model.specs.Verdicts.{Verdict, turned_away, unserved, served, is_framed, is_head_method, not_found_status, verdict_of}
 use Rattle.cy_model.proofs.Built.{has_whole}
 use Rattle.cy_model.proofs.Moves.{may_begin-parts}
-use Rattle.cy_model.proofs.Settlings.{DueTakes, due_takes}
+use Rattle.cy_model.proofs.LeftToDo.{DueTakes, due_takes}
 use Rattle.cy_target.specs.Kept.{with_target}
 use Rattle.cy_proc.specs.Judging.{IsVerdict}
 use Rattle.cy_proc.specs.declared.verdict.Judgement.TheVariants as judged
@@ -39,7 +39,8 @@ use Rattle.cy_proc.specs.Processors.{IsIdle, IsOfRequest, IsServiceAlone, Proces
 use Rattle.cy_proc.specs.declared.processor.Stage.TheVariants as stage
 use Rattle.cy_proc.proofs.Built.{IsBuiltDue, built_more, due_built}
 use Rattle.cy_proc.proofs.Lines.{began_stands, marks_at, over_stands, plainly, refused_stands, rest_moment, rest_stands}
-use Rattle.cy_proc.proofs.Requests.{ended_serves, head_kept, over_ends, rested_same, stands_idle, stands_same}
+use Rattle.cy_proc.proofs.Requests.{head_kept, rested_same, stands_idle, stands_same}
+use Rattle.cy_proc.proofs.ActParts.{ended_serves, over_ends}
 
 -- ---- what the code does
 

@@ -8,7 +8,7 @@ use Rattle.cy_model.specs.Steps.{IsWithinBytes}
 use Rattle.cy_proc.specs.LineChanges.{after_rest}
 use Rattle.cy_proc.specs.ProcessorAnswers.{Answers}
 use Rattle.cy_proc.specs.Processors.{ProcessorParts}
-use Rattle.cy_proc.proofs.Requests.{return_answers, write_answers}
+use Rattle.cy_proc.proofs.ActParts.{return_answers, write_answers}
 use Rattle.cy_proc.proofs.processor.Processor.act.Goals as goal
 
 pub returns-in-Write-2-clause-answers : goal.returns-in-Write-2-clause-answers

@@ -5,7 +5,7 @@ use Rattle.cy_proc.specs.Lines.{LineParts}
 use Rattle.cy_proc.specs.Processors.{ProcessorParts}
 use Rattle.cy_proc.proofs.Lines.{told_moment}
 use Rattle.cy_proc.proofs.Openings.{told_work}
-use Rattle.cy_proc.proofs.Requests.{event_answers}
+use Rattle.cy_proc.proofs.TurnParts.{event_answers}
 use Rattle.cy_proc.proofs.processor.Processor.event.Goals as goal
 
 pub returns-clause-answers : goal.returns-clause-answers

@@ -1,5 +1,5 @@
 -- What is left to show of `Processor::run`.
-use Rattle.cy_proc.proofs.Requests.{turn_answers}
+use Rattle.cy_proc.proofs.TurnParts.{turn_answers}
 use Rattle.cy_proc.proofs.processor.Processor.run.Goals as goal
 
 pub returns-clause-answers : goal.returns-clause-answers

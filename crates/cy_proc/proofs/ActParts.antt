@@ -1,0 +1,327 @@
+-- The parts that follow an act, taken or refused, stand for the trace that follows it.
+use Rattle.std.proofs.Common.{◌≡◌, ◌≤◌, inl, ℕ, ◌+◌, Bool, true, false, not, List, [], ◌∷◌, ◌++◌, length, map, take, Option, Some, None, is_some, refl, sym, ap, ◌∙◌, subst, arith, length-append, length-take, if◌then◌else◌}
+use Rattle.std.proofs.lemmas.List.{append-nil, map-append, take-take}
+use Rattle.cy_event.specs.declared.limits.Limits.{Limits}
+use Rattle.cy_event.specs.declared.steps.Act.{Act}
+use Rattle.cy_event.specs.declared.steps.Act.TheVariants as act
+use Rattle.cy_event.specs.declared.steps.Call.{Call}
+use Rattle.cy_event.specs.declared.steps.Call.TheVariants as call
+use Rattle.cy_event.specs.declared.steps.CloseCause.{CloseCause}
+use Rattle.cy_event.specs.declared.steps.Job.{Job}
+use Rattle.cy_event.specs.declared.steps.Job.TheVariants as job
+use Rattle.cy_event.specs.declared.steps.Reply.{Reply}
+use Rattle.cy_event.specs.declared.steps.Reply.TheVariants as reply
+use Rattle.cy_event.specs.declared.table.ChartItem.{ChartItem}
+use Rattle.cy_event.specs.declared.steps.State.{State}
+use Rattle.cy_event.specs.declared.steps.State.TheVariants as state
+use Rattle.cy_event.specs.Answers.{Answer, after_put, fresh_answer}
+use Rattle.cy_event.specs.Charts.{chart_of}
+use Rattle.cy_event.specs.Heads.{Head}
+use Rattle.cy_event.specs.Targets.{target_of}
+use Rattle.cy_head.specs.Answers.{just_read}
+use Rattle.cy_event.specs.Table.{next_state, row, is_end, state_after}
+use Rattle.cy_model.specs.Entries.{act_marks, act_reply, callback_reply, is_full, open_act_marks, open_act_reply, rested_act, rested_callback, return_marks, write_takes, end_marks_where}
+use Rattle.cy_event.specs.Answering.{Answering, Sending, has_closed, with_bytes}
+use Rattle.cy_model.specs.Endings.{cause_behind, cause_marks, end_marks, ends_closed}
+use Rattle.cy_model.specs.Folds.{calls, cause_of, ended_charts, is_open, part_of, request_of, running, state_of}
+use Rattle.cy_model.specs.Outputs.{answer_of, answering_of, end_by, put_by, sending_of, unsent}
+use Rattle.cy_model.specs.Marks.{Mark, TakenUp, called, back, put, over, Trace}
+use Rattle.cy_model.specs.Replies.{plain, replied_in}
+use Rattle.cy_states.specs.Progress.{Progress, after_call, progress_of}
+use Rattle.cy_model.specs.Settling.{last_answer_marks, rested, with_marks}
+use Rattle.cy_model.proofs.Built.{mark_plain, plain_end}
+use Rattle.cy_proc.proofs.Plain.{finish_closes, put_is, rested_open}
+use Rattle.cy_proc.specs.Lines.{IsSound, LineParts, Represents, line_parts}
+use Rattle.cy_proc.specs.declared.processor.Stage.{Stage}
+use Rattle.cy_proc.specs.declared.processor.Stage.TheVariants as stage
+use Rattle.cy_proc.specs.LineChanges.{after_end_of, after_rest, at_moment}
+use Rattle.cy_proc.specs.ProcessorAnswers.{Answers, Serves, ServesAfter, ended_items}
+use Rattle.cy_proc.specs.ProcessorChanges.{after_return, after_write, has_no_room, line_returned, write_reply, write_room}
+use Rattle.cy_proc.specs.Processors.{IsOfRequest, ProcessorParts, RequestFolds, is_open_at, over_charts_at, processor_parts, request_folds, minor_by, table_by, waiting_content, keep_by, uncut}
+use Rattle.cy_proc.proofs.Built.{built_more}
+use Rattle.cy_proc.proofs.Lines.{marks_at, moved_stands, over_stands, plainly, rest_moment, rest_stands}
+use Rattle.cy_proc.proofs.Requests.{IsOpenBy, head_kept, open_charts, owed_request, rested_same, serves_same, serving_request, stands_request, stands_same}
+
+-- ---- acts
+
+-- content that fits waits, and nothing is written
+put_waits : (T : Trace) (t : ℕ) (b : List ℕ) (p : ProcessorParts) → IsSound T → is_open T ≡ true → IsOfRequest (request_folds T) p → length (answer_of T).content + length b ≤ 8192
+    → answering_of ((t, put b) ∷ T) ≡ record (answering_of T) { sending = with_bytes b (sending_of T) }
+put_waits T t b p sound o s fits =
+    let none = sound.calm o in
+    let waits : length (sending_of T).waiting ≡ length (answer_of T).content = ap (λ (x : Sending). length x.waiting) (s.alone.sending o) in
+    ap (λ (c : Option CloseCause). put_by c (answer_of T) t b (answering_of T)) none
+    ∙ put_is (answer_of T) t b (answering_of T) (omega (arith, waits, fits))
+
+put_mark : (b : List ℕ) (T : Trace) (l : LineParts) (p : ProcessorParts) → is_open T ≡ true → IsOfRequest (request_folds T) p → length (answer_of T).content + length b ≤ 8192 → Represents T l → Represents ((l.moment, put b) ∷ T) l
+put_mark b T l p o r fits s =
+    let waits = put_waits T l.moment b p s.sound o r fits in
+    record {
+      same = s.same ∙ ap (λ (u : List ℕ). record (line_parts l.moment T) { unsent = u }) (sym (ap (λ (a : Answering). a.output) waits));
+      sound = record { heads_came = s.sound.heads_came; took_past = s.sound.took_past; built = built_more l.moment (put b) T refl s.sound.built; calm = s.sound.calm };
+      none_later = marks_at (put b ∷ []) T l s;
+    }
+
+-- what is put waits behind what waits
+waits_more : (o : Bool) (a : Answer) (b : List ℕ) → o ≡ true → waiting_content o a ++ b ≡ waiting_content o (after_put b a)
+waits_more true a b e = refl
+waits_more false a b e = cc
+
+put_parts : (T : Trace) (t : ℕ) (b : List ℕ) (p : ProcessorParts) → IsSound T → is_open T ≡ true → length (answer_of T).content + length b ≤ 8192 → IsOfRequest (request_folds T) p → IsOfRequest (request_folds ((t, put b) ∷ T)) (record p { content = p.content ++ b })
+put_parts T t b p sound o fits s =
+    let f = request_folds T in
+    let R : Trace = (t, put b) ∷ T in
+    let waits = put_waits T t b p sound o s fits in
+    record {
+      same = ap (λ (q : ProcessorParts). record q { content = q.content ++ b }) s.same
+          ∙ ap (λ (x : List ℕ). record (processor_parts p.limits f) { content = x }) (waits_more (is_open T) (answer_of T) b o);
+      alone = record {
+        minor = s.alone.minor;
+        begun = s.alone.begun;
+        taken = s.alone.taken;
+        state = s.alone.state;
+        running = s.alone.running;
+        calls = s.alone.calls;
+        answer = λ e. ap (after_put b) (s.alone.answer e);
+        few = λ e. omega (arith, fits, length-append (answer_of T).content b);
+        sending = λ e. ap (λ (a : Answering). a.sending) waits ∙ ap (with_bytes b) (s.alone.sending o);
+      };
+    }
+
+put_stands : (limits : Limits) (b : List ℕ) (T : Trace) (l : LineParts) (p : ProcessorParts) → is_open_at p.stage ≡ true → is_open T ≡ true → length (answer_of T).content + length b ≤ 8192 → IsOfRequest (request_folds T) p → Represents T l → ServesAfter T (rested limits l.moment ((l.moment, put b) ∷ T)) l (record p { content = p.content ++ b })
+put_stands limits b T l p at o fits s line =
+    let m = l.moment in
+    let R : Trace = (m, put b) ∷ T in
+    let q : ProcessorParts = record p { content = p.content ++ b } in
+    let now = mark_plain m T (plainly T line.sound) (put b) refl in
+    subst (λ (S : Trace). ServesAfter T S l q) (sym (rested_open limits m R now o)) (record {
+      serves = record { line = put_mark b T l p o s fits line; processor = inl (put_parts T m b p line.sound o fits s) };
+      charts = sym (append-nil (ended_items T)) ∙ ap (λ (x : List (List ChartItem)). ended_items T ++ x) (sym (open_charts p.stage p.progress at));
+    })
+
+-- what is taken of the first n bytes is taken of all
+taken_first : (k n : ℕ) (b : List ℕ) → k ≤ n → take k (take n b) ≡ take k b
+taken_first k n b few = take-take k n b few
+
+-- the answer of an open request is its content
+content_is : (f : RequestFolds) (p : ProcessorParts) → f.is_open ≡ true → IsOfRequest f p → f.answer ≡ after_put p.content fresh_answer
+content_is f p o s =
+    s.alone.answer o
+    ∙ ap (λ (x : List ℕ). after_put x fresh_answer) (sym (ap (λ (q : ProcessorParts). q.content) s.same ∙ ap (λ (v : Bool). waiting_content v f.answer) o))
+
+-- what a write takes fits
+room_fits : (a : Answer) (p : ProcessorParts) (n : ℕ) (b : List ℕ) → length a.content ≤ 8192 → a ≡ after_put p.content fresh_answer
+    → length a.content + length (take (write_room p n) b) ≤ 8192
+room_fits a p n b few is =
+    omega (arith, few, ap (λ (x : Answer). length x.content) is, length-take (write_room p n) b)
+
+-- a reply to a write hands over no bytes
+write_plain : (p : ProcessorParts) (n : ℕ) (into : List ℕ) → replied_in (write_reply p n) into ≡ plain (write_reply p n)
+write_plain p n into =
+    elim (has_no_room p n) as (λ v. replied_in (if v then reply.Again else reply.Taken (write_room p n)) into ≡ plain (if v then reply.Again else reply.Taken (write_room p n))) [
+      | true ↦ refl
+      | false ↦ refl
+    ]
+
+pub write_answers : (limits : Limits) (at n : ℕ) (b given into : List ℕ) (T : Trace) (old new : LineParts) (p q : ProcessorParts) (r : Reply) → p.stage ≡ stage.Serving → is_some new.cause ≡ false → n ≤ length b → Serves T old p → new ≡ at_moment at old → given ≡ take n b → r ≡ write_reply p (length given) → q ≡ after_write (length given) given p → Answers T (callback_reply limits T (act.Write n)) (rested_callback limits new.moment T (act.Write n) b) (replied_in r into) new q
+write_answers limits at n b given into T old new p q r at_stage no_cause within s later sliced replied parts =
+    let m = new.moment in
+    let line = moved_stands at T old new s.line later in
+    let stands = stands_request T p (ap is_open_at at_stage) s.processor in
+    let here = serving_request (request_folds T) p at_stage stands in
+    let runs : running T ≡ Some (job.Service (part_of T)) = here.runs in
+    let answer : answer_of T ≡ after_put p.content fresh_answer = content_is (request_folds T) p here.is_open stands in
+    let cause : is_some (cause_of T) ≡ false = sym (ap (λ (l : LineParts). is_some l.cause) line.same) ∙ no_cause in
+    let size : length given ≡ n = ap length sliced ∙ omega (arith, within, length-take n b) in
+    let put_in : take (write_room p n) given ≡ take (write_room p n) b = ap (take (write_room p n)) sliced ∙ taken_first (write_room p n) n b (omega arith) in
+    let wanted : callback_reply limits T (act.Write n) ≡ plain (write_reply p n) =
+    ap (λ (o : Option Job). if is_some o then act_reply limits T (act.Write n) else plain reply.NotActive) runs
+    ∙ ap (λ (v : Bool). if v then plain reply.Closed else open_act_reply limits T (act.Write n)) cause
+    ∙ ap (λ (a : Answer). plain (if is_full a n then reply.Again else reply.Taken (write_takes a n))) answer in
+    let trace : rested_callback limits m T (act.Write n) b ≡ rested_act limits m T (if has_no_room p n then None else Some (put (take (write_room p n) b) ∷ [])) =
+    ap (λ (o : Option Job). if is_some o then rested_act limits m T (act_marks limits T (act.Write n) b) else T) runs
+    ∙ ap (λ (v : Bool). rested_act limits m T (if v then None else open_act_marks limits T (act.Write n) b)) cause
+    ∙ ap (λ (a : Answer). rested_act limits m T (if is_full a n then None else Some (put (take (write_takes a n) b) ∷ []))) answer in
+    let left : after_write (length given) given p ≡ (if has_no_room p n then p else record p { content = p.content ++ take (write_room p n) b }) =
+    ap (λ (k : ℕ). after_write k given p) size
+    ∙ ap (λ (x : List ℕ). if has_no_room p n then p else record p { content = p.content ++ x }) put_in in
+    let follows : (v : Bool) → ServesAfter T (rested_act limits m T (if v then None else Some (put (take (write_room p n) b) ∷ []))) new (if v then p else record p { content = p.content ++ take (write_room p n) b }) = λ v.
+    elim v as (λ u. ServesAfter T (rested_act limits m T (if u then None else Some (put (take (write_room p n) b) ∷ []))) new (if u then p else record p { content = p.content ++ take (write_room p n) b })) [
+      | true ↦ serves_same T T new p (ap is_open_at at_stage) (record { folds = refl; charts = refl }) s.processor line
+      | false ↦ put_stands limits (take (write_room p n) b) T new p (ap is_open_at at_stage) here.is_open
+          (room_fits (answer_of T) p n b (stands.alone.few here.is_open) answer) stands line
+    ] in
+    record {
+      reply = ap (λ (x : Reply). replied_in x into) (replied ∙ ap (write_reply p) size) ∙ write_plain p n into ∙ sym wanted;
+      after = subst (λ (R : Trace). ServesAfter T R new q) (sym trace) (subst (λ (k : ProcessorParts). ServesAfter T (rested_act limits m T (if has_no_room p n then None else Some (put (take (write_room p n) b) ∷ []))) new k) (sym (parts ∙ left)) (follows (has_no_room p n)));
+    }
+
+-- ---- the end of a request
+
+-- what the end of a request leaves of it, but for what is sent of its answer
+pub record Ends (S R : Trace) : Type 0 where
+  pub folds : request_folds R ≡ record (request_folds S) { is_open = false; running = None; sending = sending_of R }
+  pub charts : ended_charts R ≡ ended_charts S ++ calls S ∷ []
+
+pub over_ends : (t : ℕ) (keep : Bool) (S : Trace) → Ends S (with_marks t (over ∷ last_answer_marks keep) S)
+over_ends t true S = record { folds = refl; charts = refl }
+over_ends t false S = record { folds = refl; charts = refl }
+
+-- a request that has ended in a trace, and what follows of itself
+pub ended_serves : (limits : Limits) (m : ℕ) (T R : Trace) (l : LineParts) (p : ProcessorParts) → p.stage ≡ stage.Over → IsOfRequest (request_folds R) p → ended_charts R ≡ ended_charts T ++ calls R ∷ [] → m ≤ l.moment → Represents R l → ServesAfter T (rested limits m R) (after_rest limits l) p
+ended_serves limits m T R l p at finished charts by line =
+    let same = rested_same limits m R (plainly R line.sound) in
+    record {
+      serves = record {
+        line = rest_stands limits m R l by line;
+        processor = stands_same R (rested limits m R) p same (inl finished);
+      };
+      charts = ap (map chart_of) (same.charts ∙ charts)
+          ∙ map-append chart_of (ended_charts T) (calls R ∷ [])
+          ∙ ap (λ (x : List (List ChartItem)). ended_items T ++ x)
+          (ap (λ (q : ProcessorParts). q.progress.chart ∷ []) (sym finished.same) ∙ sym (ap (λ (st : Stage). over_charts_at st p.progress) at));
+    }
+
+-- the service returns
+returned_line : (T : Trace) (l : LineParts) → Represents T l → Represents ((l.moment, called call.Return None) ∷ (l.moment, back) ∷ T) l
+returned_line T l s = record {
+  same = s.same;
+  sound = record {
+    heads_came = s.sound.heads_came;
+    took_past = s.sound.took_past;
+    built = built_more l.moment (called call.Return None) ((l.moment, back) ∷ T) refl (built_more l.moment back T refl s.sound.built);
+    calm = s.sound.calm;
+  };
+  none_later = marks_at (back ∷ called call.Return None ∷ []) T l s;
+}
+
+-- the version in the table of the last request
+table_minor : (taken : Option TakenUp) → (table_by taken).head.minor ≡ minor_by taken
+table_minor None = refl
+table_minor (Some r) = ap (λ (h : Head). h.minor) (head_kept (target_of r.head.method r.head.target) (just_read r.head))
+
+-- what a return leaves of the last request
+abbrev returned : Sending → RequestFolds → RequestFolds
+returned rest f = record f { calls = f.calls ++ call.Return ∷ []; state = next_state f.state call.Return; running = None; is_open = false; sending = rest }
+
+returned_parts : (rest : Sending) (f : RequestFolds) (p : ProcessorParts) → IsOpenBy f true → IsOfRequest f p → IsOfRequest (returned rest f) (after_return p)
+returned_parts rest f p here s =
+    let progress : after_call (progress_of f.calls) call.Return ≡ progress_of (f.calls ++ call.Return ∷ []) =
+    ap (λ (ks : List Call). after_call (progress_of ks) call.Return) here.calls
+    ∙ sym (ap (λ (ks : List Call). progress_of (ks ++ call.Return ∷ [])) here.calls) in
+    let parts = processor_parts p.limits (returned rest f) in
+    record {
+      same = ap after_return s.same
+          ∙ ap (λ (w : Progress). record parts { stage = stage.Over; progress = w }) progress
+          ∙ sym (ap (λ (st : Stage). record parts { stage = st }) (s.alone.taken here.is_open));
+      alone = record {
+        minor = s.alone.minor;
+        begun = s.alone.begun;
+        taken = λ e. cc;
+        state = ap (λ (st : State). next_state st call.Return) here.state ∙ sym (ap (λ (ks : List Call). state_after (ks ++ call.Return ∷ [])) here.calls);
+        running = refl;
+        calls = λ e. cc;
+        answer = λ e. cc;
+        few = λ e. cc;
+        sending = λ e. cc;
+      };
+    }
+
+-- what an answer says of the request is what its processor keeps
+line_of : (f : RequestFolds) (p : ProcessorParts) (l : LineParts) → f.is_open ≡ true → IsOfRequest f p → line_returned p l ≡ after_end_of f.keep f.minor f.answer l
+line_of f p l o s =
+    ap (λ (v : Bool). after_end_of v p.table.head.minor (after_put p.content fresh_answer) l) (ap (λ (q : ProcessorParts). q.keep) s.same)
+    ∙ ap (λ (n : ℕ). after_end_of f.keep n (after_put p.content fresh_answer) l)
+    (ap (λ (q : ProcessorParts). q.table.head.minor) s.same ∙ table_minor f.taken ∙ sym s.alone.minor)
+    ∙ ap (λ (a : Answer). after_end_of f.keep f.minor a l) (sym (content_is f p o s))
+
+-- its service returns: the marks of its end
+return_ends : (T : Trace) (p : ProcessorParts) → IsSound T → IsOpenBy (request_folds T) true → IsOfRequest (request_folds T) p → end_marks T ≡ over ∷ last_answer_marks (keep_by (request_of T))
+return_ends T p sound here s =
+    let o = here.is_open in
+    let none = sound.calm o in
+    let minor = minor_by (request_of T) in
+    let keep = keep_by (request_of T) in
+    let a = after_put (answer_of T).content fresh_answer in
+    let is : answer_of T ≡ a = s.alone.answer o in
+    let sent_so : sending_of T ≡ uncut minor keep a = s.alone.sending o ∙ ap (uncut minor keep) is in
+    let closes : ends_closed T ≡ not keep =
+    (λ i. has_closed (end_by (none i) false (is i) 0 (record { sending = sent_so i; output = unsent T })).sending)
+    ∙ finish_closes a 0 minor keep (unsent T) refl in
+    plain_end T (plainly T sound) none
+    ∙ ap (λ (v : Bool). over ∷ cause_marks (cause_behind false false v)) closes
+    ∙ by_keep keep
+  where
+    by_keep : (v : Bool) → over ∷ cause_marks (cause_behind false false (not v)) ≡ over ∷ last_answer_marks v
+    by_keep true = refl
+    by_keep false = refl
+
+pub return_answers : (limits : Limits) (at : ℕ) (b into : List ℕ) (T : Trace) (old moved finished new : LineParts) (p q : ProcessorParts) → p.stage ≡ stage.Serving → Serves T old p → moved ≡ at_moment at old → finished ≡ line_returned p moved → q ≡ after_return p → new ≡ after_rest limits finished → Answers T (callback_reply limits T act.Return) (rested_callback limits new.moment T act.Return b) (replied_in reply.Done into) new q
+return_answers limits at b into T old moved finished new p q at_stage s later written parts rests =
+    let m = moved.moment in
+    let keep = keep_by (request_of T) in
+    let S : Trace = (m, called call.Return None) ∷ (m, back) ∷ T in
+    let R : Trace = with_marks m (over ∷ last_answer_marks keep) S in
+    let line = moved_stands at T old moved s.line later in
+    let stands = stands_request T p (ap is_open_at at_stage) s.processor in
+    let here = serving_request (request_folds T) p at_stage stands in
+    let runs : running T ≡ Some (job.Service (part_of T)) = here.runs in
+    let in_state : state_of T ≡ state.Dispatched = (plainly T line.sound).here in
+    let wanted : callback_reply limits T act.Return ≡ plain reply.Done = ap (λ (o : Option Job). if is_some o then plain reply.Done else plain reply.NotActive) runs in
+    let at_moment_of : new.moment ≡ m = ap (λ (k : LineParts). k.moment) rests ∙ rest_moment limits finished ∙ ap (λ (k : LineParts). k.moment) written in
+    let trace : rested_callback limits new.moment T act.Return b ≡ rested limits m R =
+    ap (λ (t : ℕ). rested_callback limits t T act.Return b) at_moment_of
+    ∙ ap (λ (o : Option Job). if is_some o then rested limits m (with_marks m (return_marks T) T) else T) runs
+    ∙ ap (λ (st : State). rested limits m (with_marks m (end_marks_where (is_end (row st call.Return)) T) S)) in_state
+    ∙ ap (λ (ms : List Mark). rested limits m (with_marks m ms S)) (return_ends T p line.sound here stands) in
+    let ends = over_ends m keep S in
+    let a = after_put (answer_of T).content fresh_answer in
+    let is : answer_of T ≡ a = stands.alone.answer here.is_open in
+    let text : line_returned p moved ≡ after_end_of keep (minor_by (request_of T)) a moved =
+    line_of (request_folds T) p moved here.is_open stands ∙ ap (λ (x : Answer). after_end_of keep (minor_by (request_of T)) x moved) is in
+    let over_line : Represents R finished =
+    subst (Represents R) (sym (written ∙ text))
+    (over_stands S moved (minor_by (request_of T)) keep a (stands.alone.sending here.is_open ∙ ap (uncut (minor_by (request_of T)) keep) is) is refl refl
+    (line.sound.calm here.is_open) (returned_line T moved line)) in
+    let over_request : IsOfRequest (request_folds R) (after_return p) =
+    subst (λ (f : RequestFolds). IsOfRequest f (after_return p)) (sym ends.folds) (returned_parts (sending_of R) (request_folds T) p here stands) in
+    let charts : ended_charts R ≡ ended_charts T ++ calls R ∷ [] = ends.charts ∙ sym (ap (λ (f : RequestFolds). ended_charts T ++ f.calls ∷ []) ends.folds) in
+    let follows = ended_serves limits m T R finished (after_return p) refl over_request charts (omega (arith, ap (λ (k : LineParts). k.moment) written)) over_line in
+    record {
+      reply = sym wanted;
+      after = subst (λ (X : Trace). ServesAfter T X new q) (sym trace) (subst (λ (k : LineParts). ServesAfter T (rested limits m R) k q) (sym rests) (subst (λ (k : ProcessorParts). ServesAfter T (rested limits m R) (after_rest limits finished) k) (sym parts) follows));
+    }
+
+-- ---- a refused act
+
+-- nothing follows of it but the moment
+pub refused_act_answers : (limits : Limits) (at : ℕ) (T : Trace) (old new : LineParts) (p : ProcessorParts) (a : Act) (b : List ℕ) (r : Reply) (into : List ℕ) → is_open_at p.stage ≡ true → Serves T old p → new ≡ at_moment at old → callback_reply limits T a ≡ replied_in r into → rested_callback limits new.moment T a b ≡ T → Answers T (callback_reply limits T a) (rested_callback limits new.moment T a b) (replied_in r into) new p
+refused_act_answers limits at T old new p a b r into o s later wanted still = record {
+  reply = sym wanted;
+  after = subst (λ (R : Trace). ServesAfter T R new p) (sym still)
+      (serves_same T T new p o (record { folds = refl; charts = refl }) s.processor (moved_stands at T old new s.line later));
+}
+
+-- no callback runs
+pub idle_act : (limits : Limits) (at : ℕ) (T : Trace) (old new : LineParts) (p : ProcessorParts) (a : Act) (b into : List ℕ) → p.stage ≡ stage.Owed → Serves T old p → new ≡ at_moment at old → Answers T (callback_reply limits T a) (rested_callback limits new.moment T a b) (replied_in reply.NotActive into) new p
+idle_act limits at T old new p a b into at_stage s later =
+    let stands = stands_request T p (ap is_open_at at_stage) s.processor in
+    let here = owed_request (request_folds T) p at_stage stands in
+    let runs : running T ≡ None = here.runs in
+    refused_act_answers limits at T old new p a b reply.NotActive into (ap is_open_at at_stage) s later
+    (ap (λ (o : Option Job). if is_some o then act_reply limits T a else plain reply.NotActive) runs)
+    (ap (λ (o : Option Job). if is_some o then rested_act limits new.moment T (act_marks limits T a b) else T) runs)
+
+-- there is a cause to close
+pub closed_write : (limits : Limits) (at n : ℕ) (T : Trace) (old new : LineParts) (p : ProcessorParts) (b into : List ℕ) → p.stage ≡ stage.Serving → is_some new.cause ≡ true → Serves T old p → new ≡ at_moment at old → Answers T (callback_reply limits T (act.Write n)) (rested_callback limits new.moment T (act.Write n) b) (replied_in reply.Closed into) new p
+closed_write limits at n T old new p b into at_stage has_cause s later =
+    let stands = stands_request T p (ap is_open_at at_stage) s.processor in
+    let here = serving_request (request_folds T) p at_stage stands in
+    let runs : running T ≡ Some (job.Service (part_of T)) = here.runs in
+    let line = moved_stands at T old new s.line later in
+    let cause : is_some (cause_of T) ≡ true = sym (ap (λ (l : LineParts). is_some l.cause) line.same) ∙ has_cause in
+    refused_act_answers limits at T old new p (act.Write n) b reply.Closed into (ap is_open_at at_stage) s later
+    (ap (λ (o : Option Job). if is_some o then act_reply limits T (act.Write n) else plain reply.NotActive) runs
+    ∙ ap (λ (v : Bool). if v then plain reply.Closed else open_act_reply limits T (act.Write n)) cause)
+    (ap (λ (o : Option Job). if is_some o then rested_act limits new.moment T (act_marks limits T (act.Write n) b) else T) runs
+    ∙ ap (λ (v : Bool). rested_act limits new.moment T (if v then None else open_act_marks limits T (act.Write n) b)) cause)
