@@ -17,17 +17,20 @@ use Rattle.cy_model.proofs.OwnEntries.{admissions_open_one, full_opens_none}
 use Rattle.cy_slot.specs.Reaching.{Who}
 use Rattle.cy_proc.specs.Processors.{is_over_at}
 use Rattle.cy_world.specs.Answered.{Keeps, SeatParts, seat_parts, start}
+use Rattle.cy_world.specs.Counts.{AddUp}
+use Rattle.cy_world.specs.Places.{CountsHeads, IsInItsSlot}
 use Rattle.cy_world.specs.Worlds.{ArePlaces, AreDistinct, IsPlaceOf, PutsDown, StandsFor, StandsForOne, TakesStep, WorldParts, find_in}
-use Rattle.cy_world.specs.declared.settings.Settings.{Settings}
+use Rattle.cy_world.specs.declared.terms.Terms.{Terms}
 use Rattle.cy_world.specs.declared.world.Admitted.{Admitted}
 use Rattle.cy_world.specs.declared.world.Admitted.TheVariants.{Seated, Gone}
 use Rattle.cy_world.proofs.Counting.{count_last, distinct_last, one}
 use Rattle.cy_world.proofs.Elements.{get-set_other, get-set_same, put_down_other, put_down_same}
 use Rattle.cy_world.proofs.Retiring.{no_who}
 use Rattle.cy_world.proofs.Stepping.{StandsBut, all_of, counts_one, some, true_is_not_false}
+use Rattle.cy_world.proofs.Tenants.{admission_adds}
 
 -- a number that isn't in the book is that of no connection
-pub none_found : (s : Settings) (seats : List SeatParts) (c : ℕ) (o : Option (List (ℕ × Entry))) (a : Option Admitted) → a ≡ None → StandsForOne s seats c o a → o ≡ None
+pub none_found : (s : Terms) (seats : List SeatParts) (c : ℕ) (o : Option (List (ℕ × Entry))) (a : Option Admitted) → a ≡ None → StandsForOne s seats c o a → o ≡ None
 none_found s seats c None a none stands = refl
 none_found s seats c (Some es) a none stands = absurd (subst (λ (b : Option Admitted). StandsForOne s seats c (Some es) b) none stands)
 
@@ -48,8 +51,8 @@ may_count latch n below free = omega (arith, count_drawn latch n below free, cou
 
 pub full_stands : (w : List Step) (c : ℕ) (p : WorldParts) → StandsFor w p → count_out p.latch ≡ length p.latch → TakesStep w (step.Admit c) p (plain (reply.Full (length p.latch))) p
 full_stands w c p stands all_out =
-    let limits = p.settings.limits in
-    let rules = p.settings.rules in
+    let limits = p.terms.limits in
+    let rules = p.terms.rules in
     let hs = all_of p w in
     let count : counted limits rules hs ≡ length p.latch = sym stands.counted ∙ all_out in
     let none : admits limits rules hs ≡ false = le-ltb (counted limits rules hs) limits.max_connections (omega (arith, count, stands.places.latch)) in
@@ -61,16 +64,17 @@ full_stands w c p stands all_out =
       stands = record {
         moment = stands.moment;
         distinct = subst AreDistinct (sym same) stands.distinct;
-        each = λ d. subst (λ (gs : List History). StandsForOne p.settings p.seats d (find_own d gs) (find_in d p.book)) (sym same) (stands.each d);
+        each = λ d. subst (λ (gs : List History). StandsForOne p.terms p.seats d (find_own d gs) (find_in d p.book)) (sym same) (stands.each d);
         counted = stands.counted ∙ ap (counted limits rules) (sym same);
         places = stands.places;
+        tenancies = subst (AddUp p.terms p.seats) (sym same) stands.tenancies;
       };
     }
 
 -- ---- one more is counted
 
 -- a place that was held for nobody is none of the others'
-others_stay : (s : Settings) (seats : List SeatParts) (d n : ℕ) (seat new : SeatParts) (o : Option (List (ℕ × Entry))) (a : Option Admitted) → slice_get seats n ≡ Some seat → seat.place.who ≡ None
+others_stay : (s : Terms) (seats : List SeatParts) (d n : ℕ) (seat new : SeatParts) (o : Option (List (ℕ × Entry))) (a : Option Admitted) → slice_get seats n ≡ Some seat → seat.place.who ≡ None
     → StandsForOne s seats d o a → StandsForOne s (set seats n new) d o a
 others_stay s seats d n seat new None None there nobody stands = tt
 others_stay s seats d n seat new None (Some a) there nobody stands = absurd stands
@@ -87,42 +91,43 @@ share_is : (o : Option Who) (w v : Who) → o ≡ Some w → o ≡ Some v → v.
 share_is o w v one other = ap (λ (x : Who). x.share) (some v w (sym other ∙ one))
 
 admit_places : (p : WorldParts) (c n : ℕ) (seat new : SeatParts) (latch : List Bool) → ArePlaces p → slice_get p.seats n ≡ Some seat → n < length p.latch → latch ≡ set p.latch n true
-    → new.place.who ≡ Some (record { share = n; number = c }) → is_over_at new.place.live.processor.stage ≡ false → ArePlaces (record p { seats = set p.seats n new; latch = latch })
-admit_places p c n seat new latch places there below drawn who kept = record {
+    → new.place.who ≡ Some (record { share = n; number = c }) → is_over_at new.place.live.processor.stage ≡ false → IsInItsSlot new.place → ArePlaces (record p { seats = set p.seats n new; latch = latch })
+admit_places p c n seat new latch places there below drawn who kept slot = record {
   each = λ j k at. by_place j k (cases_eq j n) at;
   seats = length-set p.seats n new ∙ places.seats;
   latch = ap length drawn ∙ length-set p.latch n true ∙ places.latch;
 }
   where
-    mine : (k : SeatParts) → slice_get (set p.seats n new) n ≡ Some k → IsPlaceOf p.settings n (is_out latch n) k
+    mine : (k : SeatParts) → slice_get (set p.seats n new) n ≡ Some k → IsPlaceOf p.terms n (is_out latch n) k
     mine k at =
         let is : new ≡ k = some new k (sym (get-set_same p.seats n seat new there) ∙ at) in
         let out : is_out latch n ≡ true = ap (λ (l : List Bool). is_out l n) drawn ∙ is_out-set_same p.latch n true below in
-        subst (IsPlaceOf p.settings n (is_out latch n)) is (record {
+        subst (IsPlaceOf p.terms n (is_out latch n)) is (record {
           held = ap is_some who ∙ sym out;
           share = λ v h. share_is new.place.who (record { share = n; number = c }) v who h;
           kept = kept;
+          slot = slot;
           vacant = λ none. absurd (true_is_not_false (sym out ∙ none));
         })
 
-    by_place : (j : ℕ) (k : SeatParts) → (j ≡ n) ⊎ (j ≡ n → ⊥) → slice_get (set p.seats n new) j ≡ Some k → IsPlaceOf p.settings j (is_out latch j) k
+    by_place : (j : ℕ) (k : SeatParts) → (j ≡ n) ⊎ (j ≡ n → ⊥) → slice_get (set p.seats n new) j ≡ Some k → IsPlaceOf p.terms j (is_out latch j) k
     by_place j k (inl e) at =
-        subst (λ (m : ℕ). IsPlaceOf p.settings m (is_out latch m) k) (sym e) (mine k (subst (λ (m : ℕ). slice_get (set p.seats n new) m ≡ Some k) e at))
+        subst (λ (m : ℕ). IsPlaceOf p.terms m (is_out latch m) k) (sym e) (mine k (subst (λ (m : ℕ). slice_get (set p.seats n new) m ≡ Some k) e at))
     by_place j k (inr other) at =
-        subst (λ (v : Bool). IsPlaceOf p.settings j v k) (sym (ap (λ (l : List Bool). is_out l j) drawn ∙ is_out-set_other p.latch n j true other))
+        subst (λ (v : Bool). IsPlaceOf p.terms j v k) (sym (ap (λ (l : List Bool). is_out l j) drawn ∙ is_out-set_other p.latch n j true other))
         (places.each j k (sym (get-set_other p.seats n j new other) ∙ at))
 
 -- the admission is accepted
 pub record TakesAdmission (w : List Step) (c n : ℕ) (old new : WorldParts) : Type 0 where
-  pub reply : plain reply.Entered ≡ reply_by old.settings.limits old.settings.rules (admission c) (moment w) (all_of old w)
-  pub stands : StandsBut c n (after old.settings.limits old.settings.rules start [] opening) (step.Admit c ∷ w) new
+  pub reply : plain reply.Entered ≡ reply_by old.terms.limits old.terms.rules (admission c) (moment w) (all_of old w)
+  pub stands : StandsBut c n (after old.terms.limits old.terms.rules start [] opening) (step.Admit c ∷ w) new
 
 pub admission_stands : (w : List Step) (c n : ℕ) (p : WorldParts) (seat new : SeatParts) (latch : List Bool) (book : List (ℕ × Admitted)) → StandsFor w p → find_in c p.book ≡ None
     → n < length p.latch → is_out p.latch n ≡ false → latch ≡ set p.latch n true → slice_get p.seats n ≡ Some seat → new.place.who ≡ Some (record { share = n; number = c })
-    → Keeps p.settings (after p.settings.limits p.settings.rules start [] opening) (seat_parts new) → PutsDown c (Seated n) p.book book
+    → Keeps p.terms (after p.terms.limits p.terms.rules start [] opening) (seat_parts new) → CountsHeads seat.place new.place → IsInItsSlot new.place → PutsDown c (Seated n) p.book book
     → TakesAdmission w c n p (record p { seats = set p.seats n new; latch = latch; book = book })
-admission_stands w c n p seat new latch book stands unknown below free drawn there who keeps puts =
-    let s = p.settings in
+admission_stands w c n p seat new latch book stands unknown below free drawn there who keeps counts slot puts =
+    let s = p.terms in
     let limits = s.limits in
     let rules = s.rules in
     let hs = all_of p w in
@@ -137,8 +142,9 @@ admission_stands w c n p seat new latch book stands unknown below free drawn the
     ∙ ap (λ (t : ℕ). hs ++ record { number = c; entries = (t, opening) ∷ [] } ∷ []) stands.moment in
     let none : find_own c hs ≡ None = none_found s p.seats c (find_own c hs) (find_in c p.book) unknown (stands.each c) in
     let law = admissions_open_one limits rules w c replied in
-    let nobody : seat.place.who ≡ None = ((stands.places.each n seat there).vacant free).nobody in
-    let placed = admit_places p c n seat new latch stands.places there below drawn who keeps.kept in
+    let vacant = (stands.places.each n seat there).vacant free in
+    let nobody : seat.place.who ≡ None = vacant.nobody in
+    let placed = admit_places p c n seat new latch stands.places there below drawn who keeps.kept slot in
     record {
       reply = sym replied;
       stands = record {
@@ -161,5 +167,6 @@ admission_stands w c n p seat new latch book stands unknown below free drawn the
           seats = placed.seats;
           latch = placed.latch;
         };
+        tenancies = subst (AddUp s (set p.seats n new)) (sym all) (admission_adds s hs entry n p.seats seat new there vacant keeps.lives slot (ap is_some who) counts stands.tenancies);
       };
     }

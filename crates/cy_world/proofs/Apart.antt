@@ -18,18 +18,19 @@ use Rattle.cy_world.specs.Answered.{SeatParts}
 use Rattle.cy_world.specs.Laws.{AdmitsByCount, CountedNeverExceed, HasFreePlace, TwoSitInTwoSlots, counted_in}
 use Rattle.cy_world.specs.Told.{IsHeldFor, SitsIn, slot_at}
 use Rattle.cy_world.specs.Worlds.{CanTake, StandsFor, StandsForOne, TakesStep, WorldParts, find_in}
-use Rattle.cy_world.specs.declared.settings.Settings.{Settings}
+use Rattle.cy_world.specs.declared.terms.Terms.{Terms}
 use Rattle.cy_world.specs.declared.world.Admitted.{Admitted}
 use Rattle.cy_world.specs.declared.world.Admitted.TheVariants.{Seated}
 use Rattle.cy_world.proofs.Admitting.{count_within, none_found}
 use Rattle.cy_world.proofs.Guests.{HavePlacesApart, out_is_booked}
+use Rattle.cy_world.proofs.Sitters.{held_for_sitter, sitter}
 use Rattle.cy_world.proofs.Stepping.{all_of, found, some}
 
 -- ---- places
 
 held_for : (w : List Step) (p : WorldParts) (c i : ℕ) → StandsFor w p → find_in c p.book ≡ Some (Seated i) → IsHeldFor (record { share = i; number = c }) i p
 held_for w p c i stands booked =
-    let f = found p.settings p.seats c i (find_own c (all_of p w)) (find_in c p.book) booked (stands.each c) in
+    let f = found p.terms p.seats c i (find_own c (all_of p w)) (find_in c p.book) booked (stands.each c) in
     ap (option_map (λ (seat : SeatParts). seat.place.who)) f.seated.there ∙ ap Some f.seated.who
 
 -- one place is held for one connection
@@ -46,7 +47,7 @@ is_held : (p : WorldParts) (i : ℕ) (who : Who) (o : Option SeatParts) → slic
 is_held p i who None at held = cc
 is_held p i who (Some seat) at held = record { seat = seat; there = at; who_is = some seat.place.who (Some who) held }
 
-share_of : (w : List Step) (p : WorldParts) (who : Who) (i : ℕ) → StandsFor w p → IsHeldFor who i p → (who.share ≡ i) × (is_out p.latch i ≡ true) × (i < p.settings.limits.max_connections)
+share_of : (w : List Step) (p : WorldParts) (who : Who) (i : ℕ) → StandsFor w p → IsHeldFor who i p → (who.share ≡ i) × (is_out p.latch i ≡ true) × (i < p.terms.limits.max_connections)
 share_of w p who i stands held =
     let place = is_held p i who (slice_get p.seats i) refl held in
     let is = stands.places.each i place.seat place.there in
@@ -67,11 +68,21 @@ two_places w p stands c d i j one other away same =
     (held_for w p d j stands other)))
 
 -- for whom a place is held, the book has that place
-guest_booked : (w : List Step) (p : WorldParts) (who : Who) (i : ℕ) → StandsFor w p → IsHeldFor who i p → find_in who.number p.book ≡ Some (Seated i)
+pub guest_booked : (w : List Step) (p : WorldParts) (who : Who) (i : ℕ) → StandsFor w p → IsHeldFor who i p → find_in who.number p.book ≡ Some (Seated i)
 guest_booked w p who i stands held =
     let booked = out_is_booked w p i stands (two_places w p stands) (share_of w p who i stands held).1 in
     let same = one_number p i (record { share = i; number = booked.0 }) who (held_for w p booked.0 i stands booked.1) held in
     ap (λ (x : Who). find_in x.number p.book) (sym same) ∙ booked.1
+
+-- who sits in a slot is he for whom its place is held
+sits_held : (p : WorldParts) (c i : ℕ) (w : List Step) → StandsFor w p → SitsIn c i p → IsHeldFor (record { share = i; number = c }) i p
+sits_held p c i w stands sits =
+    let s = sitter p c i (slice_get p.seats i) refl sits in
+    let place = stands.places.each i s.seat s.there in
+    ap (option_map (λ (seat : SeatParts). seat.place.who)) s.there ∙ ap Some (held_for_sitter s.seat.place (record { share = i; number = c }) place.slot s.who)
+
+pub seated_in : (w : List Step) (p : WorldParts) (c i : ℕ) → StandsFor w p → SitsIn c i p → find_in c p.book ≡ Some (Seated i)
+seated_in w p c i stands sits = guest_booked w p (record { share = i; number = c }) i stands (sits_held p c i w stands sits)
 
 pub two_sit_in_two_slots : TwoSitInTwoSlots
 two_sit_in_two_slots w p stands = record {
@@ -79,6 +90,7 @@ two_sit_in_two_slots w p stands = record {
   places = λ c d i j one other. two_places w p stands c d i j one other;
   share = λ who i held. share_of w p who i stands held;
   booked = λ who i held. guest_booked w p who i stands held;
+  seated = λ c i sits. seated_in w p c i stands sits;
   slots = λ c d i j mine other away same. away (one_guest p c d i j mine other same);
 }
 
@@ -101,7 +113,7 @@ there_is [] i below = absurd (omega (arith, below))
 there_is (s ∷ ss) zero below = (s, refl)
 there_is (s ∷ ss) (suc i) below = there_is ss i (omega (arith, below))
 
-free_place : (w : List Step) (p : WorldParts) → StandsFor w p → counted_in p w < p.settings.limits.max_connections → HasFreePlace p
+free_place : (w : List Step) (p : WorldParts) → StandsFor w p → counted_in p w < p.terms.limits.max_connections → HasFreePlace p
 free_place w p stands less =
     let free = free_in p.latch (omega (arith, less, stands.counted, stands.places.latch)) in
     let at = there_is p.seats free.number (omega (arith, free.below, stands.places.latch, stands.places.seats)) in
@@ -117,10 +129,10 @@ free_place w p stands less =
 
 -- whether one more may be counted
 abbrev may_admit : WorldParts → List Step → Bool
-may_admit p w = admits p.settings.limits p.settings.rules (all_of p w)
+may_admit p w = admits p.terms.limits p.terms.rules (all_of p w)
 
 abbrev most_in : WorldParts → ℕ
-most_in p = p.settings.limits.max_connections
+most_in p = p.terms.limits.max_connections
 
 -- what an admission is answered, by whether one more may be counted
 abbrev answer_by : Bool → ℕ → Replied
@@ -134,27 +146,27 @@ only_entered : (v : Bool) (n : ℕ) → answer_by v n ≡ plain reply.Entered �
 only_entered true n e = refl
 only_entered false n e = let clash : reply.Full n ≡ reply.Entered = ap (λ (r : Replied). r.reply) e in cc
 
-in_book : (s : Settings) (seats : List SeatParts) (c : ℕ) (entries : List (ℕ × Entry)) (o : Option (List (ℕ × Entry))) (a : Option Admitted) → o ≡ Some entries → StandsForOne s seats c o a → is_some a ≡ true
+in_book : (s : Terms) (seats : List SeatParts) (c : ℕ) (entries : List (ℕ × Entry)) (o : Option (List (ℕ × Entry))) (a : Option Admitted) → o ≡ Some entries → StandsForOne s seats c o a → is_some a ≡ true
 in_book s seats c entries None a is stands = cc
 in_book s seats c entries (Some es) None is stands = absurd stands
 in_book s seats c entries (Some es) (Some a) is stands = refl
 
 -- an accepted admission gets into the book
-gets_in : (w : List Step) (p q : WorldParts) (c : ℕ) → StandsFor w p → find_in c p.book ≡ None → StandsFor (step.Admit c ∷ w) q → q.settings ≡ p.settings
+gets_in : (w : List Step) (p q : WorldParts) (c : ℕ) → StandsFor w p → find_in c p.book ≡ None → StandsFor (step.Admit c ∷ w) q → q.terms ≡ p.terms
     → may_admit p w ≡ true → is_some (find_in c q.book) ≡ true
 gets_in w p q c stands unknown after same admitted =
-    let s = p.settings in
+    let s = p.terms in
     let hs = all_of p w in
     let none : find_own c hs ≡ None = none_found s p.seats c (find_own c hs) (find_in c p.book) unknown (stands.each c) in
     let law = admissions_open_one s.limits s.rules w c (ap (λ (v : Bool). answer_by v (counted s.limits s.rules hs)) admitted) in
-    let own : find_own c (connections q.settings.limits q.settings.rules (step.Admit c ∷ w)) ≡ Some ((moment w, opening) ∷ []) =
-    ap (λ (x : Settings). find_own c (connections x.limits x.rules (step.Admit c ∷ w))) same ∙ law.own none in
-    in_book q.settings q.seats c ((moment w, opening) ∷ []) (find_own c (connections q.settings.limits q.settings.rules (step.Admit c ∷ w))) (find_in c q.book) own (after.each c)
+    let own : find_own c (connections q.terms.limits q.terms.rules (step.Admit c ∷ w)) ≡ Some ((moment w, opening) ∷ []) =
+    ap (λ (x : Terms). find_own c (connections x.limits x.rules (step.Admit c ∷ w))) same ∙ law.own none in
+    in_book q.terms q.seats c ((moment w, opening) ∷ []) (find_own c (connections q.terms.limits q.terms.rules (step.Admit c ∷ w))) (find_in c q.book) own (after.each c)
 
 not_both : (v : Bool) → v ≡ true → v ≡ false → ⊥
 not_both v is is_not = cc
 
-admits_by_count : (w : List Step) (p q : WorldParts) (c : ℕ) (r : Replied) → StandsFor w p → CanTake (step.Admit c) p → TakesStep w (step.Admit c) p r q → q.settings ≡ p.settings
+admits_by_count : (w : List Step) (p q : WorldParts) (c : ℕ) (r : Replied) → StandsFor w p → CanTake (step.Admit c) p → TakesStep w (step.Admit c) p r q → q.terms ≡ p.terms
     → AdmitsByCount w c p r q
 admits_by_count w p q c r stands unknown takes same = by_order (cases_lt (counted_in p w) (most_in p))
   where

@@ -12,10 +12,11 @@ use Rattle.cy_map.specs.declared.fault.MapFault.TheVariants as map_fault
 use Rattle.cy_map.specs.declared.rule.Rule.{Rule}
 use Rattle.cy_map.specs.Refusals.{IsFirstRepeat, first_bad}
 use Rattle.cy_world.specs.Answered.{IsVacant, SeatParts}
+use Rattle.cy_world.specs.Counts.{tenancies}
 use Rattle.cy_world.specs.Faults.{IsFaultOf, fault_by}
 use Rattle.cy_world.specs.Worlds.{IsPlaceOf, StandsFor}
 use Rattle.cy_world.specs.declared.world.Admitted.{Admitted}
-use Rattle.cy_world.specs.declared.settings.Settings.{Settings}
+use Rattle.cy_world.specs.declared.terms.Terms.{Terms}
 use Rattle.cy_world.proofs.Retiring.{no_who}
 use Rattle.cy_world.proofs.Stepping.{some}
 
@@ -31,23 +32,24 @@ none_counted limit =
     let none : count_out (replicate limit false) ≡ limit * 0 = sum_by-replicate (λ (b : Bool). cond b 1 0) limit false in
     omega (arith, none)
 
-each_vacant : (s : Settings) (seats : List SeatParts) → All (IsVacant s.limits) seats → (i : ℕ) (seat : SeatParts) → slice_get seats i ≡ Some seat → IsVacant s.limits seat
+each_vacant : (s : Terms) (seats : List SeatParts) → All (IsVacant s.limits) seats → (i : ℕ) (seat : SeatParts) → slice_get seats i ≡ Some seat → IsVacant s.limits seat
 each_vacant s seats all i seat there =
     let below = slice_get_within seats i seat there in
     let is : get_or seats i seat ≡ seat = some (get_or seats i seat) seat (sym (slice_get-get_or seats i seat below) ∙ there) in
     subst (IsVacant s.limits) is (All-get_or (IsVacant s.limits) seats i seat below all)
 
-vacant_place : (s : Settings) (i : ℕ) (out : Bool) (seat : SeatParts) → out ≡ false → IsVacant s.limits seat → IsPlaceOf s i out seat
+vacant_place : (s : Terms) (i : ℕ) (out : Bool) (seat : SeatParts) → out ≡ false → IsVacant s.limits seat → IsPlaceOf s i out seat
 vacant_place s i out seat free v = record {
   held = ap is_some v.nobody ∙ sym free;
   share = λ w h. absurd (no_who seat.place.who w v.nobody h);
   kept = v.kept;
+  slot = v.slot;
   vacant = λ e. v;
 }
 
-begins : (s : Settings) (seats : List SeatParts) → All (IsVacant s.limits) seats → length seats ≡ s.limits.max_connections
-    → StandsFor [] (record { settings = s; latch = replicate s.limits.max_connections false; seats = seats; book = [] })
-begins s seats vacant size = record {
+begins : (s : Terms) (seats : List SeatParts) → All (IsVacant s.limits) seats → tenancies seats ≡ 0 → length seats ≡ s.limits.max_connections
+    → StandsFor [] (record { terms = s; latch = replicate s.limits.max_connections false; seats = seats; book = [] })
+begins s seats vacant unvisited size = record {
   moment = refl;
   distinct = tt;
   each = λ c. tt;
@@ -57,13 +59,14 @@ begins s seats vacant size = record {
     seats = size;
     latch = length-replicate s.limits.max_connections false;
   };
+  tenancies = λ less. unvisited;
 }
 
-pub begins_as : (s : Settings) (seats : List SeatParts) (latch : List Bool) (book : List (ℕ × Admitted)) → All (IsVacant s.limits) seats → length seats ≡ s.limits.max_connections
-    → latch ≡ replicate s.limits.max_connections false → book ≡ [] → StandsFor [] (record { settings = s; latch = latch; seats = seats; book = book })
-begins_as s seats latch book vacant size counted_none empty =
-    subst (λ (l : List Bool). StandsFor [] (record { settings = s; latch = l; seats = seats; book = book })) (sym counted_none)
-    (subst (λ (b : List (ℕ × Admitted)). StandsFor [] (record { settings = s; latch = replicate s.limits.max_connections false; seats = seats; book = b })) (sym empty) (begins s seats vacant size))
+pub begins_as : (s : Terms) (seats : List SeatParts) (latch : List Bool) (book : List (ℕ × Admitted)) → All (IsVacant s.limits) seats → tenancies seats ≡ 0 → length seats ≡ s.limits.max_connections
+    → latch ≡ replicate s.limits.max_connections false → book ≡ [] → StandsFor [] (record { terms = s; latch = latch; seats = seats; book = book })
+begins_as s seats latch book vacant unvisited size counted_none empty =
+    subst (λ (l : List Bool). StandsFor [] (record { terms = s; latch = l; seats = seats; book = book })) (sym counted_none)
+    (subst (λ (b : List (ℕ × Admitted)). StandsFor [] (record { terms = s; latch = replicate s.limits.max_connections false; seats = seats; book = b })) (sym empty) (begins s seats vacant unvisited size))
 
 -- ---- why there is none
 

@@ -16,7 +16,7 @@ use Rattle.cy_world.specs.Reporting.{items_of}
 use Rattle.cy_world.specs.Told.{TalliesEach}
 use Rattle.cy_world.specs.declared.seat.Account.{Account}
 use Rattle.cy_world.specs.declared.seat.Tally.{Tally}
-use Rattle.cy_world.specs.declared.settings.Settings.{Settings}
+use Rattle.cy_world.specs.declared.terms.Terms.{Terms}
 use Rattle.cy_world.proofs.Keeping.{charts_told}
 use Rattle.cy_world.proofs.Lives.{all_charts}
 
@@ -60,7 +60,7 @@ came_to n T why taken written items causes takes writes =
     ∙ ap (λ (t : ℕ). connection_text n (cause_of T) t written items) takes
     ∙ ap (λ (u : List ℕ). connection_text n (cause_of T) (took T) u items) writes
 
-pub seat_told : (n : ℕ) (s : Settings) (T : Trace) (p : Parts) (t : Tally) (written : List ℕ) (items : List (List ChartItem)) → Keeps s T p → TalliesEach p t → written ≡ p.written → items ≡ charts_in p.live
+pub seat_told : (n : ℕ) (s : Terms) (T : Trace) (p : Parts) (t : Tally) (written : List ℕ) (items : List (List ChartItem)) → Keeps s T p → TalliesEach p t → written ≡ p.written → items ≡ charts_in p.live
     → connection_text n t.cause t.took written items ≡ trace_text n T
 seat_told n s T p t written items keeps tallies wrote drawn =
     let tally = tallies s T keeps in

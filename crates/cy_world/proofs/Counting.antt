@@ -1,5 +1,6 @@
 -- How many connections are counted, when one of them takes an entry or one more is admitted; and that numbers stay
 -- distinct.
+use Rattle.std.specs.Prelude.{sum_by}
 use Rattle.std.proofs.Common.{◌≡◌, ◌≢◌, ℕ, ◌+◌, Bool, true, false, cond, not, List, [], ◌∷◌, ◌++◌, Option, Some, None, refl, sym, ap, subst, arith, ◌==◌, if◌then◌else◌}
 use Rattle.std.proofs.lemmas.Bool.{eq-eqb, eqb-true, ne_eqb}
 use Rattle.std.proofs.lemmas.List.Sums.{sum_by-cons, sum_by_push}
@@ -64,6 +65,40 @@ distinct_last h (g ∷ gs) distinct none =
     differ : g.number == h.number ≡ false → h.number ≢ g.number
     differ q e = let same : g.number == h.number ≡ true = eq-eqb g.number h.number (sym e) in cc
 
+-- ---- sums over the connections
+
+-- what is summed up of a connection is by its entries
+module _ (f : List (ℕ × Entry) → ℕ) where
+  abbrev pub total : List History → ℕ
+  total hs = sum_by (λ (h : History). f h.entries) hs
+
+  pub total_first : (h : History) (hs : List History) → total (h ∷ hs) ≡ f h.entries + total hs
+  total_first h hs = sum_by-cons (λ (g : History). f g.entries) h hs
+
+  pub total_last : (hs : List History) (h : History) → total (hs ++ h ∷ []) ≡ total hs + f h.entries
+  total_last hs h = sum_by_push (λ (g : History). f g.entries) hs h
+
+  pub total_own : (t c : ℕ) (e : Entry) (hs : List History) (entries : List (ℕ × Entry)) → AreDistinct hs → find_own c hs ≡ Some entries
+      → total (add_own t c e hs) + f entries ≡ total hs + f ((t, e) ∷ entries)
+  total_own t c e [] entries distinct found = cc
+  total_own t c e (h ∷ hs) entries distinct found =
+      elim (h.number == c) as (λ v. h.number == c ≡ v → (if v then Some h.entries else find_own c hs) ≡ Some entries
+      → total ((cond v (with_entry t e h) h) ∷ add_own t c e hs) + f entries ≡ total (h ∷ hs) + f ((t, e) ∷ entries)) [
+        | true ↦ λ q g.
+            let same : h.entries ≡ entries = cc in
+            let none : find_own c hs ≡ None = subst (λ (n : ℕ). find_own n hs ≡ None) (eqb-true h.number c q) distinct.0 in
+            omega (
+              arith,
+              total_first (with_entry t e h) (add_own t c e hs),
+              total_first h hs,
+              ap total (add_none t c e hs none),
+              ap f same,
+              ap (λ (es : List (ℕ × Entry)). f ((t, e) ∷ es)) same,
+            )
+        | false ↦ λ q g.
+            omega (arith, total_first h (add_own t c e hs), total_first h hs, total_own t c e hs entries distinct.1 g)
+      ] refl found
+
 -- ---- counts
 
 module _ (limits : Limits) (rules : List Rule) where
@@ -74,34 +109,12 @@ module _ (limits : Limits) (rules : List Rule) where
   abbrev pub one : List (ℕ × Entry) → ℕ
   one entries = cond (not (gone_by entries)) 1 0
 
-  one_of : History → ℕ
-  one_of h = one h.entries
-
   pub count_first : (h : History) (hs : List History) → counted limits rules (h ∷ hs) ≡ one h.entries + counted limits rules hs
-  unfolding one_of
-  count_first h hs = sum_by-cons one_of h hs
+  count_first h hs = total_first one h hs
 
   pub count_last : (hs : List History) (h : History) → counted limits rules (hs ++ h ∷ []) ≡ counted limits rules hs + one h.entries
-  unfolding one_of
-  count_last hs h = sum_by_push one_of hs h
+  count_last hs h = total_last one hs h
 
   pub count_own : (t c : ℕ) (e : Entry) (hs : List History) (entries : List (ℕ × Entry)) → AreDistinct hs → find_own c hs ≡ Some entries
       → counted limits rules (add_own t c e hs) + one entries ≡ counted limits rules hs + one ((t, e) ∷ entries)
-  count_own t c e [] entries distinct found = cc
-  count_own t c e (h ∷ hs) entries distinct found =
-      elim (h.number == c) as (λ v. h.number == c ≡ v → (if v then Some h.entries else find_own c hs) ≡ Some entries
-      → counted limits rules ((cond v (with_entry t e h) h) ∷ add_own t c e hs) + one entries ≡ counted limits rules (h ∷ hs) + one ((t, e) ∷ entries)) [
-        | true ↦ λ q f.
-            let same : h.entries ≡ entries = cc in
-            let none : find_own c hs ≡ None = subst (λ (n : ℕ). find_own n hs ≡ None) (eqb-true h.number c q) distinct.0 in
-            omega (
-              arith,
-              count_first (with_entry t e h) (add_own t c e hs),
-              count_first h hs,
-              ap (counted limits rules) (add_none t c e hs none),
-              ap one same,
-              ap (λ (es : List (ℕ × Entry)). one ((t, e) ∷ es)) same,
-            )
-        | false ↦ λ q f.
-            omega (arith, count_first h (add_own t c e hs), count_first h hs, count_own t c e hs entries distinct.1 f)
-      ] refl found
+  count_own t c e hs entries distinct found = total_own one t c e hs entries distinct found

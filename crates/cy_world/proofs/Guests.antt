@@ -17,7 +17,7 @@ use Rattle.cy_world.proofs.Stepping.{all_of, true_is_not_false}
 -- ---- those that are counted
 
 abbrev gone_in : WorldParts → List (ℕ × Entry) → Bool
-gone_in p es = is_gone (trace_of p.settings.limits p.settings.rules es)
+gone_in p es = is_gone (trace_of p.terms.limits p.terms.rules es)
 
 -- those that aren't gone have places whose shares are out
 abbrev AreSeated : WorldParts → List History → List Bool → Type 0
@@ -25,15 +25,15 @@ AreSeated p hs latch =
     (d : ℕ) (es : List (ℕ × Entry)) → find_own d hs ≡ Some es → gone_in p es ≡ false
     → (j : ℕ) × (find_in d p.book ≡ Some (Seated j)) × (is_out latch j ≡ true)
 
-seated_by : (p : WorldParts) (d : ℕ) (es : List (ℕ × Entry)) (o : Option Admitted) → StandsForOne p.settings p.seats d (Some es) o → gone_in p es ≡ false
-    → (j : ℕ) × (o ≡ Some (Seated j)) × IsSeatedFor p.settings p.seats d (trace_of p.settings.limits p.settings.rules es) j
+seated_by : (p : WorldParts) (d : ℕ) (es : List (ℕ × Entry)) (o : Option Admitted) → StandsForOne p.terms p.seats d (Some es) o → gone_in p es ≡ false
+    → (j : ℕ) × (o ≡ Some (Seated j)) × IsSeatedFor p.terms p.seats d (trace_of p.terms.limits p.terms.rules es) j
 seated_by p d es None stands here = absurd stands
 seated_by p d es (Some (Seated j)) stands here = (j, refl, stands.0)
 seated_by p d es (Some (Gone a)) stands here = absurd (true_is_not_false (sym stands.gone ∙ here))
 
 all_seated : (w : List Step) (p : WorldParts) → StandsFor w p → AreSeated p (all_of p w) p.latch
 all_seated w p stands d es found here =
-    let v = seated_by p d es (find_in d p.book) (subst (λ (o : Option (List (ℕ × Entry))). StandsForOne p.settings p.seats d o (find_in d p.book)) found (stands.each d)) here in
+    let v = seated_by p d es (find_in d p.book) (subst (λ (o : Option (List (ℕ × Entry))). StandsForOne p.terms p.seats d o (find_in d p.book)) found (stands.each d)) here in
     (v.0, v.1, sym (stands.places.each v.0 v.2.seat v.2.there).held ∙ ap is_some v.2.who)
 
 -- ---- one after another
@@ -76,13 +76,13 @@ it_or_another p c i j (inl same) booked next = (c, booked ∙ ap (λ (n : ℕ). 
 it_or_another p c i j (inr other) booked next = next other
 
 booked_in : (p : WorldParts) (hs : List History) (latch : List Bool) (i : ℕ) → HavePlacesApart p → AreDistinct hs → AreSeated p hs latch
-    → count_out latch ≡ counted p.settings.limits p.settings.rules hs → is_out latch i ≡ true → IsBooked p i
+    → count_out latch ≡ counted p.terms.limits p.terms.rules hs → is_out latch i ≡ true → IsBooked p i
 booked_in p [] latch i apart distinct seated count out =
-    let none : counted p.settings.limits p.settings.rules [] ≡ 0 = refl in
+    let none : counted p.terms.limits p.terms.rules [] ≡ 0 = refl in
     absurd (omega (arith, count_left latch i (out_is_below latch i out) out, count, none))
 booked_in p (h ∷ hs) latch i apart distinct seated count out =
-    let limits = p.settings.limits in
-    let rules = p.settings.rules in
+    let limits = p.terms.limits in
+    let rules = p.terms.rules in
     elim (gone_in p h.entries) as (λ v. gone_in p h.entries ≡ v → IsBooked p i) [
       | true ↦ λ q.
           let counts : one limits rules h.entries ≡ 0 = ap (λ (v : Bool). cond (not v) 1 0) q in

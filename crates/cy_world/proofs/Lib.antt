@@ -1,5 +1,10 @@
 pub mod Lives
 pub mod Places
+pub mod Heads
+pub mod Cutting
+pub mod Visits
+pub mod Done
+pub mod Tenants
 pub mod TakingUp
 pub mod Written
 pub mod Keeping
@@ -16,6 +21,8 @@ pub mod Charts
 pub mod Numbers
 pub mod Reporting
 pub mod OwnReplies
+pub mod Sitters
 pub mod Guests
 pub mod Apart
+pub mod Served
 pub mod Alike

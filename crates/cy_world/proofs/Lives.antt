@@ -12,17 +12,17 @@ use Rattle.cy_event.specs.declared.steps.Act.{Act}
 use Rattle.cy_event.specs.declared.steps.Act.TheVariants as act
 use Rattle.cy_event.specs.declared.steps.Job.{Job}
 use Rattle.cy_event.specs.declared.steps.Reply.TheVariants as reply
-use Rattle.cy_model.specs.Entries.{act_marks, act_reply, after_act, after_callback, after_turn, callback_reply, ended_count, is_closed_act, is_full, job_marks, job_reply, open_act_marks, open_act_reply, owed_after, reply_to_event, rested_act, rested_callback, rested_event, rested_turn, write_takes}
+use Rattle.cy_model.specs.Entries.{act_marks, act_reply, after_act, after_callback, after_turn, callback_reply, ended_count, is_closed_act, is_full, job_marks, job_reply, open_act_marks, open_act_reply, owed_after, reply_to_event, rested_act, rested_callback, rested_event, rested_turn, return_marks, turn_reply, write_takes}
 use Rattle.cy_model.specs.Jobs.{asking, job_owed, next_job}
 use Rattle.cy_model.specs.Folds.{cause_of, ended_charts, is_open, running}
 use Rattle.cy_model.specs.Outputs.{answer_of, unsent}
 use Rattle.cy_states.specs.Progress.{Progress}
-use Rattle.cy_model.specs.Marks.{Mark, Trace, put}
-use Rattle.cy_model.specs.Replies.{Replied, is_refusal, plain, replied_in}
-use Rattle.cy_model.specs.Settling.{after_move, front_of, is_awaited, may_begin, may_begin_by, rested, settled, taken_up, with_marks}
-use Rattle.cy_model.proofs.Built.{IsPlain, has_whole}
-use Rattle.cy_model.proofs.Gone.{open_may_not_begin, open_still}
-use Rattle.cy_model.proofs.Settlings.{none-due, settled-at-rest, settled-done, settled-rested, settled-taken}
+use Rattle.cy_model.specs.Marks.{Trace, put}
+use Rattle.cy_model.specs.Replies.{is_refusal, plain, replied_in}
+use Rattle.cy_model.specs.Settling.{front_of, is_awaited, may_begin, may_begin_by, rested, settled, taken_up, with_marks}
+use Rattle.cy_model.proofs.Built.{has_whole}
+use Rattle.cy_model.proofs.Gone.{open_may_not_begin}
+use Rattle.cy_model.proofs.Settlings.{none-due, settled-at-rest, settled-rested, settled-taken}
 use Rattle.cy_proc.specs.LineAnswers.{AnswersEachEvent, RestsEach as LineRestsEach}
 use Rattle.cy_proc.specs.LineChanges.{is_due}
 use Rattle.cy_proc.specs.Lines.{LineParts, Represents}
@@ -32,8 +32,8 @@ use Rattle.cy_proc.specs.declared.processor.Stage.{Stage}
 use Rattle.cy_proc.specs.declared.processor.Stage.TheVariants as stage
 use Rattle.cy_proc.proofs.Lines.{plainly}
 use Rattle.cy_proc.proofs.Plain.{rested_open}
-use Rattle.cy_proc.proofs.Requests.{SameRequests, event_same, rested_same, stands_open, stands_same}
-use Rattle.cy_world.specs.Lives.{AnswersLive, AnswersTurn, KeepsEach, RestsEach, SettlesEach, SettlesOne, TakesOne}
+use Rattle.cy_proc.proofs.Requests.{SameRequests, event_same, rested_same, stands_idle, stands_open, stands_same}
+use Rattle.cy_world.specs.Lives.{AnswersLive, LivesAfterFollowing, RestsEach, SettlesEach, SettlesOne, TakesOne}
 use Rattle.cy_world.specs.Places.{IsAlive, LiveParts, Lives}
 
 -- ---- the line alone goes on
@@ -167,21 +167,6 @@ rest_settles rules limits m T p due same_limits same_moment w rest none =
 
 -- ---- acts and turns
 
-settled_open : (limits : Limits) (rules : List Rule) (t : ℕ) (T : Trace) → IsPlain T → is_open T ≡ true → settled limits rules t T ≡ T
-settled_open limits rules t T p o = settled-done limits rules t T (ap (after_move t T) (open_still limits rules T p o))
-
--- what follows of an act of an open request, when it is settled
-settled_act : (limits : Limits) (rules : List Rule) (t : ℕ) (T : Trace) (o : Option (List Mark)) → IsPlain T → is_open T ≡ true → settled limits rules t (rested_act limits t T o) ≡ after_act limits rules t T o
-settled_act limits rules t T None p open_now = settled_open limits rules t T p open_now
-settled_act limits rules t T (Some ms) p open_now = settled-rested limits rules t (with_marks t ms T)
-
-settled_callback : (limits : Limits) (rules : List Rule) (t : ℕ) (T : Trace) (a : Act) (b : List ℕ) → IsPlain T → is_open T ≡ true → settled limits rules t (rested_callback limits t T a b) ≡ after_callback limits rules t T a b
-settled_callback limits rules t T a b p o =
-    elim (is_some (running T)) as (λ v. settled limits rules t (if v then rested_act limits t T (act_marks limits T a b) else T) ≡ (if v then after_act limits rules t T (act_marks limits T a b) else T)) [
-      | true ↦ settled_act limits rules t T (act_marks limits T a b) p o
-      | false ↦ settled_open limits rules t T p o
-    ]
-
 -- a request that is open isn't over
 pub open_not_over : (st : Stage) → is_open_at st ≡ true → is_over_at st ≡ false
 open_not_over stage.Free o = cc
@@ -202,19 +187,27 @@ no_room : (r : Reply) → replied_in r none ≡ plain r
 no_room (reply.Got n) = ap (λ (u : List ℕ). record { reply = reply.Got n; got = u }) (take_none n)
 no_room r = refl
 
-pub act_lives : (rules : List Rule) (a : Act) (b into : List ℕ) (r : Reply) (T : Trace) (p new : LiveParts) (l : LineParts) (q : ProcessorParts) → is_open_at p.processor.stage ≡ true → Lives T p → l.moment ≡ max p.line.moment 0 → q.limits ≡ p.processor.limits → into ≡ none → AnswersEachAct a b p.line p.processor r into l q → SettlesEach rules (record p { line = l; processor = q }) new → AnswersLive (callback_reply p.limits T a) (after_callback p.limits rules p.line.moment T a b) (plain r) new
-act_lives rules a b into r T p new l q o s later same empty answers settles =
+pub act_told : (a : Act) (b into : List ℕ) (r : Reply) (T : Trace) (p : LiveParts) (l : LineParts) (q : ProcessorParts) → is_open_at p.processor.stage ≡ true → Lives T p → l.moment ≡ max p.line.moment 0 → q.limits ≡ p.processor.limits → into ≡ none
+    → AnswersEachAct a b p.line p.processor r into l q → AnswersLive (callback_reply p.limits T a) (rested_callback p.limits p.line.moment T a b) (plain r) (record p { line = l; processor = q })
+act_told a b into r T p l q o s later same empty answers =
     let w = answers T s.serves in
     let at : l.moment ≡ p.line.moment = later ∙ last_moment p.line.moment in
     let to_limits : q.limits ≡ p.limits = same ∙ s.limits in
-    let lives = settles (rested_callback q.limits l.moment T a b) (served_lives T (rested_callback q.limits l.moment T a b) p l q (open_not_over p.processor.stage o) to_limits s w.after) in
-    let trace : settled p.limits rules l.moment (rested_callback q.limits l.moment T a b) ≡ after_callback p.limits rules p.line.moment T a b =
-    ap (λ (k : Limits). settled p.limits rules l.moment (rested_callback k l.moment T a b)) to_limits
-    ∙ ap (λ (t : ℕ). settled p.limits rules t (rested_callback p.limits t T a b)) at
-    ∙ settled_callback p.limits rules p.line.moment T a b (plainly T s.serves.line.sound) (stands_open T p.processor s.serves.processor ∙ o) in
     record {
       reply = sym (ap (replied_in r) empty ∙ no_room r) ∙ w.reply ∙ ap (λ (k : Limits). callback_reply k T a) to_limits;
-      lives = subst (λ (R : Trace). Lives R new) trace lives;
+      lives = subst (λ (k : Limits). Lives (rested_callback k p.line.moment T a b) (record p { line = l; processor = q })) to_limits
+          (subst (λ (t : ℕ). Lives (rested_callback q.limits t T a b) (record p { line = l; processor = q })) at
+          (served_lives T (rested_callback q.limits l.moment T a b) p l q (open_not_over p.processor.stage o) to_limits s w.after));
+    }
+
+-- where no request is open, no callback runs that could act
+pub idle_told : (a : Act) (b : List ℕ) (T : Trace) (p : LiveParts) → is_open_at p.processor.stage ≡ false → Lives T p
+    → AnswersLive (callback_reply p.limits T a) (rested_callback p.limits p.line.moment T a b) (plain reply.NotActive) p
+idle_told a b T p closed s =
+    let none : running T ≡ None = (stands_idle T p.processor closed s.serves.processor).none_runs in
+    record {
+      reply = sym (ap (λ (o : Option Job). if is_some o then act_reply p.limits T a else plain reply.NotActive) none);
+      lives = subst (λ (R : Trace). Lives R p) (sym (ap (λ (o : Option Job). if is_some o then rested_act p.limits p.line.moment T (act_marks p.limits T a b) else T) none)) s;
     }
 
 -- ---- refused acts
@@ -230,7 +223,7 @@ module _ (limits : Limits) (t : ℕ) (T : Trace) where
   open_act_refused act.Return b e = cc
 
   -- a refused act leaves the trace
-  callback_refused : (a : Act) (b : List ℕ) → is_refusal (callback_reply limits T a).reply ≡ true → rested_callback limits t T a b ≡ T
+  pub callback_refused : (a : Act) (b : List ℕ) → is_refusal (callback_reply limits T a).reply ≡ true → rested_callback limits t T a b ≡ T
   callback_refused a b e =
       elim (is_some (running T)) as (λ v. is_refusal (if v then act_reply limits T a else plain reply.NotActive).reply ≡ true
       → (if v then rested_act limits t T (act_marks limits T a b) else T) ≡ T) [
@@ -243,29 +236,53 @@ module _ (limits : Limits) (t : ℕ) (T : Trace) where
         | false ↦ λ q. refl
       ] e
 
--- it is followed by nothing
-pub refused_lives : (rules : List Rule) (a : Act) (b into : List ℕ) (r : Reply) (T : Trace) (p : LiveParts) (l : LineParts) (q : ProcessorParts) → is_refusal r ≡ true → is_open_at p.processor.stage ≡ true → Lives T p → l.moment ≡ max p.line.moment 0 → q.limits ≡ p.processor.limits → into ≡ none → AnswersEachAct a b p.line p.processor r into l q → AnswersLive (callback_reply p.limits T a) (after_callback p.limits rules p.line.moment T a b) (plain r) (record p { line = l; processor = q })
-refused_lives rules a b into r T p l q refused_now o s later same empty answers =
-    let w = answers T s.serves in
-    let m = p.line.moment in
-    let at : l.moment ≡ m = later ∙ last_moment m in
-    let to_limits : q.limits ≡ p.limits = same ∙ s.limits in
-    let replied : plain r ≡ callback_reply p.limits T a = sym (ap (replied_in r) empty ∙ no_room r) ∙ w.reply ∙ ap (λ (k : Limits). callback_reply k T a) to_limits in
-    let here : is_refusal (callback_reply p.limits T a).reply ≡ true = sym (ap (λ (x : Replied). is_refusal x.reply) replied) ∙ refused_now in
-    let stays : rested_callback p.limits m T a b ≡ T = callback_refused p.limits m T a b here in
-    let open_now : is_open T ≡ true = stands_open T p.processor s.serves.processor ∙ o in
-    let trace : rested_callback q.limits l.moment T a b ≡ after_callback p.limits rules m T a b =
-    ap (λ (k : Limits). rested_callback k l.moment T a b) to_limits
-    ∙ ap (λ (t : ℕ). rested_callback p.limits t T a b) at
-    ∙ stays
-    ∙ sym (settled_open p.limits rules m T (plainly T s.serves.line.sound) open_now)
-    ∙ sym (ap (settled p.limits rules m) stays)
-    ∙ settled_callback p.limits rules m T a b (plainly T s.serves.line.sound) open_now in
-    record {
-      reply = replied;
-      lives = subst (λ (R : Trace). Lives R (record p { line = l; processor = q })) trace
-          (served_lives T (rested_callback q.limits l.moment T a b) p l q (open_not_over p.processor.stage o) to_limits s w.after);
-    }
+  -- it is followed by nothing
+  open_act_unfollowed : (rules : List Rule) (a : Act) (b : List ℕ) → is_refusal (open_act_reply limits T a).reply ≡ true → after_act limits rules t T (open_act_marks limits T a b) ≡ T
+  open_act_unfollowed rules (act.Write n) b e =
+      elim (is_full (answer_of T) n) as (λ v. is_refusal (if v then reply.Again else reply.Taken (write_takes (answer_of T) n)) ≡ true
+      → after_act limits rules t T (if v then None else Some (put (take (write_takes (answer_of T) n) b) ∷ [])) ≡ T) [
+        | true ↦ λ q. refl
+        | false ↦ λ q. cc
+      ] e
+  open_act_unfollowed rules act.Return b e = cc
+
+  pub callback_unfollowed : (rules : List Rule) (a : Act) (b : List ℕ) → is_refusal (callback_reply limits T a).reply ≡ true → after_callback limits rules t T a b ≡ T
+  callback_unfollowed rules a b e =
+      elim (is_some (running T)) as (λ v. is_refusal (if v then act_reply limits T a else plain reply.NotActive).reply ≡ true
+      → (if v then after_act limits rules t T (act_marks limits T a b) else T) ≡ T) [
+        | true ↦ λ q.
+            elim (is_closed_act a T) as (λ v. is_refusal (if v then plain reply.Closed else open_act_reply limits T a).reply ≡ true
+            → after_act limits rules t T (if v then None else open_act_marks limits T a b) ≡ T) [
+              | true ↦ λ x. refl
+              | false ↦ λ x. open_act_unfollowed rules a b x
+            ] q
+        | false ↦ λ q. refl
+      ] e
+
+  -- an act that isn't refused is followed by the moves of the container
+  settled_open_act : (rules : List Rule) (a : Act) (b : List ℕ) → is_refusal (open_act_reply limits T a).reply ≡ false
+      → settled limits rules t (rested_act limits t T (open_act_marks limits T a b)) ≡ after_act limits rules t T (open_act_marks limits T a b)
+  settled_open_act rules (act.Write n) b e =
+      elim (is_full (answer_of T) n) as (λ v. let o = if v then None else Some (put (take (write_takes (answer_of T) n) b) ∷ []) in
+      is_refusal (if v then reply.Again else reply.Taken (write_takes (answer_of T) n)) ≡ false → settled limits rules t (rested_act limits t T o) ≡ after_act limits rules t T o) [
+        | true ↦ λ q. cc
+        | false ↦ λ q. settled-rested limits rules t ((t, put (take (write_takes (answer_of T) n) b)) ∷ T)
+      ] e
+  settled_open_act rules act.Return b e = settled-rested limits rules t (with_marks t (return_marks T) T)
+
+  pub settled_callback : (rules : List Rule) (a : Act) (b : List ℕ) → is_refusal (callback_reply limits T a).reply ≡ false
+      → settled limits rules t (rested_callback limits t T a b) ≡ after_callback limits rules t T a b
+  settled_callback rules a b e =
+      elim (is_some (running T)) as (λ v. is_refusal (if v then act_reply limits T a else plain reply.NotActive).reply ≡ false
+      → settled limits rules t (if v then rested_act limits t T (act_marks limits T a b) else T) ≡ (if v then after_act limits rules t T (act_marks limits T a b) else T)) [
+        | true ↦ λ q.
+            elim (is_closed_act a T) as (λ v. let o = if v then None else open_act_marks limits T a b in
+            is_refusal (if v then plain reply.Closed else open_act_reply limits T a).reply ≡ false → settled limits rules t (rested_act limits t T o) ≡ after_act limits rules t T o) [
+              | true ↦ λ x. cc
+              | false ↦ λ x. settled_open_act rules a b x
+            ] q
+        | false ↦ λ q. cc
+      ] e
 
 -- how many requests have ended
 ended_length : (T : Trace) (p : LiveParts) → is_over_at p.processor.stage ≡ false → Lives T p → length p.charts ≡ ended_count T
@@ -274,8 +291,12 @@ ended_length T p kept s = ap length (all_charts T p kept s) ∙ length-map (ende
 none_owed : (T S : Trace) → (ended_count S == ended_count T) ≡ false → owed_after T S ≡ None
 none_owed T S e = ap (λ (v : Bool). if v then next_job S else None) e
 
+-- a turn of a worker, behind what was settled
+abbrev pub AnswersTurn : LiveParts → Trace → Trace → Reply → LiveParts → Type 0
+AnswersTurn old T S r new = AnswersLive (turn_reply T S) (after_turn old.line.moment T S) (plain r) new
+
 -- nothing is owed where a request has ended, or none is open
-pub idle_turn : (rules : List Rule) (T : Trace) (p mid : LiveParts) → is_over_at p.processor.stage ≡ false → is_over_at mid.processor.stage ≡ false → Lives T p → SettlesEach rules p mid → ((length mid.charts ≡ length p.charts → ⊥) ⊎ (is_open_at mid.processor.stage ≡ false)) → AnswersTurn p rules T (settled p.limits rules p.line.moment T) reply.Idle mid
+pub idle_turn : (rules : List Rule) (T : Trace) (p mid : LiveParts) → is_over_at p.processor.stage ≡ false → is_over_at mid.processor.stage ≡ false → Lives T p → SettlesEach rules p mid → ((length mid.charts ≡ length p.charts → ⊥) ⊎ (is_open_at mid.processor.stage ≡ false)) → AnswersTurn p T (settled p.limits rules p.line.moment T) reply.Idle mid
 idle_turn rules T p mid kept kept_mid s settles why =
     let S = settled p.limits rules p.line.moment T in
     let lives = settles T s in
@@ -292,7 +313,7 @@ idle_turn rules T p mid kept kept_mid s settles why =
       lives = subst (λ (o : Option Job). Lives (with_marks p.line.moment (job_marks o) S) mid) (sym none) lives;
     }
 
-pub turn_lives : (rules : List Rule) (r : Reply) (T : Trace) (p mid : LiveParts) (l : LineParts) (q : ProcessorParts) → is_over_at p.processor.stage ≡ false → is_over_at mid.processor.stage ≡ false → Lives T p → SettlesEach rules p mid → length mid.charts ≡ length p.charts → is_open_at mid.processor.stage ≡ true → mid.limits ≡ p.limits → mid.line.moment ≡ p.line.moment → l.moment ≡ max mid.line.moment 0 → q.limits ≡ mid.processor.limits → AnswersEachTurn mid.line mid.processor r l q → AnswersTurn p rules T (settled p.limits rules p.line.moment T) r (record mid { line = l; processor = q })
+pub turn_lives : (rules : List Rule) (r : Reply) (T : Trace) (p mid : LiveParts) (l : LineParts) (q : ProcessorParts) → is_over_at p.processor.stage ≡ false → is_over_at mid.processor.stage ≡ false → Lives T p → SettlesEach rules p mid → length mid.charts ≡ length p.charts → is_open_at mid.processor.stage ≡ true → mid.limits ≡ p.limits → mid.line.moment ≡ p.line.moment → l.moment ≡ max mid.line.moment 0 → q.limits ≡ mid.processor.limits → AnswersEachTurn mid.line mid.processor r l q → AnswersTurn p T (settled p.limits rules p.line.moment T) r (record mid { line = l; processor = q })
 turn_lives rules r T p mid l q kept kept_mid s settles equal o same_limits same_moment later same answers =
     let S = settled p.limits rules p.line.moment T in
     let lives = settles T s in
@@ -325,16 +346,20 @@ act_alive a b into p r l q alive o same answers =
     let w = answers alive.0 alive.1.serves in
     (rested_callback q.limits l.moment alive.0 a b, served_lives alive.0 (rested_callback q.limits l.moment alive.0 a b) p l q (open_not_over p.processor.stage o) (same ∙ alive.1.limits) alive.1 w.after)
 
--- a refused act keeps limits and moment, and its request is still open
-pub refused_keeps : (a : Act) (b into : List ℕ) (r : Reply) (p : LiveParts) (l : LineParts) (q : ProcessorParts) → IsAlive p → is_refusal r ≡ true → is_open_at p.processor.stage ≡ true → l.moment ≡ max p.line.moment 0 → into ≡ none → AnswersEachAct a b p.line p.processor r into l q → KeepsEach p (record p { line = l; processor = q })
-refused_keeps a b into r p l q alive refused_now o later empty answers =
-    let T = alive.0 in
-    let w = answers T alive.1.serves in
-    let replied : plain r ≡ callback_reply q.limits T a = sym (ap (replied_in r) empty ∙ no_room r) ∙ w.reply in
-    let here : is_refusal (callback_reply q.limits T a).reply ≡ true = sym (ap (λ (x : Replied). is_refusal x.reply) replied) ∙ refused_now in
-    let after : Serves T l q = subst (λ (R : Trace). Serves R l q) (callback_refused q.limits l.moment T a b here) w.after.serves in
-    record {
-      limits = refl;
-      moment = later ∙ last_moment p.line.moment;
-      kept = λ e. open_not_over q.stage (sym (stands_open T q after.processor) ∙ stands_open T p.processor alive.1.serves.processor ∙ o);
-    }
+-- ---- what follows an entry
+
+-- what follows is settled; behind a turn of a worker nothing begins
+pub follows : (rules : List Rule) (turn : Bool) (told : Reply) (p new : LiveParts) → (turn ≡ true → told ≡ reply.Idle) → SettlesEach rules p new
+    → (turn ≡ false) ⊎ ((T : Trace) → Lives T p → AnswersTurn p T (settled p.limits rules p.line.moment T) reply.Idle new) → LivesAfterFollowing rules turn told p told new
+follows rules true told p new idle settles why T s =
+    ⊎_elim (λ e. absurd (not_both e)) (λ turns. subst (λ (r : Reply). AnswersTurn p T (settled p.limits rules p.line.moment T) r new) (sym (idle refl)) (turns T s)) why
+  where
+    not_both : true ≡ false → ⊥
+    not_both e = cc
+follows rules false told p new idle settles why T s = record { reply = refl; lives = settles T s }
+
+-- or the callback that is owed begins
+pub turn_follows : (rules : List Rule) (turn : Bool) (told : Reply) (p new : LiveParts) (r : Reply) → turn ≡ true
+    → ((T : Trace) → Lives T p → AnswersTurn p T (settled p.limits rules p.line.moment T) r new) → LivesAfterFollowing rules turn told p r new
+turn_follows rules true told p new r is turns T s = turns T s
+turn_follows rules false told p new r is turns T s = cc

@@ -18,24 +18,26 @@ use Rattle.cy_model.specs.Replies.{plain}
 use Rattle.cy_model.specs.Settling.{settled, with_marks}
 use Rattle.cy_model.proofs.OwnEntries.{own_steps_add_own_entries}
 use Rattle.cy_world.specs.Answered.{start}
+use Rattle.cy_world.specs.Counts.{AddUp}
 use Rattle.cy_world.specs.Worlds.{AreDistinct, IsGoneAs, StandsFor, StandsForOne, TakesStep, WorldParts, find_in}
 use Rattle.cy_world.specs.declared.seat.Account.{Account}
-use Rattle.cy_world.specs.declared.settings.Settings.{Settings}
+use Rattle.cy_world.specs.declared.terms.Terms.{Terms}
 use Rattle.cy_world.specs.declared.world.Admitted.{Admitted}
 use Rattle.cy_world.specs.declared.world.Admitted.TheVariants.{Gone}
 use Rattle.cy_world.proofs.Admitting.{none_found}
 use Rattle.cy_world.proofs.Counting.{add_none, count_own, distinct_own, one}
 use Rattle.cy_world.proofs.Retiring.{of_each, stands_for_self}
 use Rattle.cy_world.proofs.Stepping.{all_of}
+use Rattle.cy_world.proofs.Tenants.{none_adds}
 
 -- ---- nobody has the number
 
 pub nobody_answers : (w : List Step) (s : Step) (c : ℕ) (e : Entry) (p : WorldParts) → kind_of s ≡ own c e → StandsFor w p → find_in c p.book ≡ None → TakesStep w s p (plain reply.NoConn) p
 nobody_answers w s c e p kind stands unknown =
-    let limits = p.settings.limits in
-    let rules = p.settings.rules in
+    let limits = p.terms.limits in
+    let rules = p.terms.rules in
     let hs = all_of p w in
-    let none : find_own c hs ≡ None = none_found p.settings p.seats c (find_own c hs) (find_in c p.book) unknown (stands.each c) in
+    let none : find_own c hs ≡ None = none_found p.terms p.seats c (find_own c hs) (find_in c p.book) unknown (stands.each c) in
     let at : moment (s ∷ w) ≡ start = ap (λ (k : Kind). moment_after k (moment w)) kind ∙ stands.moment in
     let same : connections limits rules (s ∷ w) ≡ hs =
     ap (λ (k : Kind). with_step limits rules k (moment (s ∷ w)) hs) kind ∙ add_none (moment (s ∷ w)) c e hs none in
@@ -47,9 +49,10 @@ nobody_answers w s c e p kind stands unknown =
       stands = record {
         moment = at;
         distinct = subst AreDistinct (sym same) stands.distinct;
-        each = λ d. subst (λ (gs : List History). StandsForOne p.settings p.seats d (find_own d gs) (find_in d p.book)) (sym same) (stands.each d);
+        each = λ d. subst (λ (gs : List History). StandsForOne p.terms p.seats d (find_own d gs) (find_in d p.book)) (sym same) (stands.each d);
         counted = stands.counted ∙ ap (counted limits rules) (sym same);
         places = stands.places;
+        tenancies = subst (AddUp p.terms p.seats) (sym same) stands.tenancies;
       };
     }
 
@@ -89,34 +92,34 @@ act_passes limits rules t T a b gone = record {
   trace = ap (λ (v : Bool). if v then T else after_callback limits rules t T a b) gone;
 }
 
-entry_of : (d c : ℕ) (x e : Entry) → own d x ≡ own c e → x ≡ e
-entry_of d c x e same = cc
+entry_by : (d c : ℕ) (x e : Entry) → own d x ≡ own c e → x ≡ e
+entry_by d c x e same = cc
 
 passes : (limits : Limits) (rules : List Rule) (t : ℕ) (T : Trace) (s : Step) (c : ℕ) (e : Entry) → kind_of s ≡ own c e → is_gone T ≡ true → PassesBy limits rules t T e
 passes limits rules t T (step.At u) c e kind gone = cc
 passes limits rules t T (step.Admit d) c e kind gone = cc
-passes limits rules t T (step.On d ev b) c e kind gone = subst (PassesBy limits rules t T) (entry_of d c (on_event ev b) e kind) (event_passes limits rules t T ev b gone)
-passes limits rules t T (step.Run d) c e kind gone = subst (PassesBy limits rules t T) (entry_of d c on_run e kind) (turn_passes limits rules t T gone)
-passes limits rules t T (step.Act d a b) c e kind gone = subst (PassesBy limits rules t T) (entry_of d c (on_act a b) e kind) (act_passes limits rules t T a b gone)
+passes limits rules t T (step.On d ev b) c e kind gone = subst (PassesBy limits rules t T) (entry_by d c (on_event ev b) e kind) (event_passes limits rules t T ev b gone)
+passes limits rules t T (step.Run d) c e kind gone = subst (PassesBy limits rules t T) (entry_by d c on_run e kind) (turn_passes limits rules t T gone)
+passes limits rules t T (step.Act d a b) c e kind gone = subst (PassesBy limits rules t T) (entry_by d c (on_act a b) e kind) (act_passes limits rules t T a b gone)
 
 -- ---- what is kept of it
 
-record WasGone (s : Settings) (a : Account) (o : Option (List (ℕ × Entry))) : Type 0 where
+record WasGone (s : Terms) (a : Account) (o : Option (List (ℕ × Entry))) : Type 0 where
   entries : List (ℕ × Entry)
   is : o ≡ Some entries
   gone : IsGoneAs (trace_of s.limits s.rules entries) a
 
-was_gone : (s : Settings) (p : WorldParts) (c : ℕ) (o : Option (List (ℕ × Entry))) (a : Option Admitted) (k : Account) → a ≡ Some (Gone k) → StandsForOne s p.seats c o a → WasGone s k o
+was_gone : (s : Terms) (p : WorldParts) (c : ℕ) (o : Option (List (ℕ × Entry))) (a : Option Admitted) (k : Account) → a ≡ Some (Gone k) → StandsForOne s p.seats c o a → WasGone s k o
 was_gone s p c None a k is stands = absurd (subst (λ (b : Option Admitted). StandsForOne s p.seats c None b) is stands)
 was_gone s p c (Some entries) a k is stands =
     record { entries = entries; is = refl; gone = subst (λ (b : Option Admitted). StandsForOne s p.seats c (Some entries) b) is stands }
 
 pub gone_answers : (w : List Step) (s : Step) (c : ℕ) (e : Entry) (p : WorldParts) (k : Account) → kind_of s ≡ own c e → StandsFor w p → find_in c p.book ≡ Some (Gone k) → TakesStep w s p (plain reply.Closed) p
 gone_answers w s c e p k kind stands booked =
-    let limits = p.settings.limits in
-    let rules = p.settings.rules in
+    let limits = p.terms.limits in
+    let rules = p.terms.rules in
     let hs = all_of p w in
-    let f = was_gone p.settings p c (find_own c hs) (find_in c p.book) k booked (stands.each c) in
+    let f = was_gone p.terms p c (find_own c hs) (find_in c p.book) k booked (stands.each c) in
     let T = trace_of limits rules f.entries in
     let by = passes limits rules start T s c e kind f.gone.gone in
     let at : moment (s ∷ w) ≡ start = ap (λ (x : Kind). moment_after x (moment w)) kind ∙ stands.moment in
@@ -136,9 +139,9 @@ gone_answers w s c e p k kind stands booked =
       stands = record {
         moment = at;
         distinct = subst AreDistinct (sym all) (distinct_own start c e hs stands.distinct);
-        each = of_each p.settings p.seats c (λ d. find_own d (connections limits rules (s ∷ w))) (λ d. find_in d p.book)
-            (stands_for_self p.settings p.seats c ((start, e) ∷ f.entries) T (find_own c (connections limits rules (s ∷ w))) (find_in c p.book) (Gone k) found_now by.trace booked f.gone)
-            (λ d away. subst (λ (o : Option (List (ℕ × Entry))). StandsForOne p.settings p.seats d o (find_in d p.book)) (sym (law.other d away)) (stands.each d));
+        each = of_each p.terms p.seats c (λ d. find_own d (connections limits rules (s ∷ w))) (λ d. find_in d p.book)
+            (stands_for_self p.terms p.seats c ((start, e) ∷ f.entries) T (find_own c (connections limits rules (s ∷ w))) (find_in c p.book) (Gone k) found_now by.trace booked f.gone)
+            (λ d away. subst (λ (o : Option (List (ℕ × Entry))). StandsForOne p.terms p.seats d o (find_in d p.book)) (sym (law.other d away)) (stands.each d));
         counted = omega (
           arith,
           stands.counted,
@@ -147,5 +150,6 @@ gone_answers w s c e p k kind stands booked =
           one_same,
         );
         places = stands.places;
+        tenancies = subst (AddUp p.terms p.seats) (sym all) (none_adds p.terms p.seats hs c e f.entries stands.distinct f.is by.trace stands.tenancies);
       };
     }

@@ -11,15 +11,15 @@ use Rattle.cy_event.specs.declared.steps.Event.TheVariants as event
 use Rattle.cy_event.specs.declared.steps.Reply.{Reply}
 use Rattle.cy_event.specs.declared.table.ChartItem.{ChartItem}
 use Rattle.cy_map.specs.declared.rule.Rule.{Rule}
-use Rattle.cy_model.specs.Entries.{after_callback, callback_reply, reply_to_event, rested_event}
+use Rattle.cy_model.specs.Entries.{callback_reply, reply_to_event, rested_callback, rested_event}
 use Rattle.cy_model.specs.Marks.{Trace}
-use Rattle.cy_model.specs.Replies.{is_refusal, plain}
+use Rattle.cy_model.specs.Replies.{plain}
 use Rattle.cy_model.specs.Settling.{begin_bound, is_awaited, rested, settled}
 use Rattle.cy_proc.specs.LineAnswers.{AnswersEachEvent as LineAnswersEachEvent, RestsEach as LineRestsEach}
 use Rattle.cy_proc.specs.LineChanges.{after_event, after_rest, after_told, causes_left, ends_at_rest, front_at, is_closed_line, is_due, is_gone_line, may_begin_line, room_of, standing_of, work_of}
 use Rattle.cy_proc.specs.Lines.{LineParts}
 use Rattle.cy_proc.specs.ProcessorAnswers.{AnswersEachAct, AnswersEachEvent, AnswersEachTurn}
-use Rattle.cy_proc.specs.Processors.{ProcessorParts, is_free_at, is_open_at, is_over_at}
+use Rattle.cy_proc.specs.Processors.{is_free_at, is_open_at, is_over_at}
 use Rattle.cy_proc.specs.declared.line.Standing.TheVariants as standing
 use Rattle.cy_proc.specs.declared.processor.Stage.{Stage}
 use Rattle.cy_proc.specs.declared.processor.Stage.TheVariants as stage
@@ -28,10 +28,10 @@ use Rattle.cy_slot.specs.Reaching.{KeepsAllElse, reaches, who_is}
 use Rattle.cy_slot.specs.Slots.{SlotParts, line_in}
 use Rattle.cy_slot.specs.declared.conn.Conn.{Conn}
 use Rattle.cy_slot.specs.declared.slot.TheConstants.{GREATEST_TENANCY}
-use Rattle.cy_world.specs.Lives.{AnswersLive, AnswersTurn, KeepsEach, SettlesEach}
+use Rattle.cy_world.specs.Lives.{AnswersLive, KeepsEach, SettlesEach}
 use Rattle.cy_world.specs.Places.{HasRoom, IsAlive, IsPlace, IsSeated, LiveParts, Lives, PlaceParts, line_at, stands_due, taken_at_most, tenants_by}
 use Rattle.cy_world.specs.declared.place.Idle.{Idle}
-use Rattle.cy_world.proofs.Lives.{act_alive, act_lives, refused_keeps, refused_lives, rested_lives, served_event, told_lives, turn_alive, turn_lives}
+use Rattle.cy_world.proofs.Lives.{AnswersTurn, act_alive, act_told, rested_lives, served_event, told_lives, turn_alive, turn_lives}
 
 abbrev pub live_of : Limits → SlotParts → Option Idle → List (List ChartItem) → LiveParts
 live_of limits slot idle charts = record { limits = limits; line = line_at idle slot; processor = slot.processor; charts = charts }
@@ -58,7 +58,7 @@ seated_reaches None limits s tenancy none seated kept same =
 seated_reaches (Some i) limits s tenancy none seated kept same = cc
 
 -- who sits there sits there still
-some_who : (t : Option Conn) → is_some (who_is t) ≡ is_some t
+pub some_who : (t : Option Conn) → is_some (who_is t) ≡ is_some t
 some_who None = refl
 some_who (Some conn) = refl
 
@@ -104,7 +104,7 @@ pub seated_place : (limits : Limits) (s r : SlotParts) (spare : Option SlotParts
 seated_place limits s r spare None None charts now room room_now none none_after place kept_else taken alive = record {
   head_room = place.head_room;
   field_room = place.field_room;
-  seated = (seated_still s r place.seated.0 kept_else, taken);
+  seated = (seated_still s r place.seated.0 kept_else, taken, ap (λ (q : SlotParts). q.first) kept_else.same ∙ place.seated.2);
   spare_fresh = place.spare_fresh;
   alive = alive;
 }
@@ -153,21 +153,13 @@ pub cause_at_most : (k : Option CloseCause) → causes_left k ≤ 1
 cause_at_most None = omega arith
 cause_at_most (Some k) = omega arith
 
--- an entry that brought so many bytes leaves room for what they may lead to: the ring took no more than it holds
+-- an entry that brought so many bytes leaves room for what they may lead to
 pub event_room : (before now : PlaceParts) (n : ℕ) → now.live.charts ≡ before.live.charts → now.chart_room ≡ before.chart_room → now.tenants_left ≡ before.tenants_left
-    → work_of now.live.line ≤ work_of before.live.line + n → length now.live.line.unread ≤ IN_CAPACITY → HasRoom n before → HasRoom 0 now
-event_room before now n charts room left work within has =
-    let bound : work_of now.live.line ≤ IN_CAPACITY + 1 = omega (arith, within, cause_at_most now.live.line.cause) in
-    record {
-      charts = held (length now.live.charts) (work_of before.live.line) (work_of now.live.line) n before.chart_room now.chart_room (omega (arith, has.charts, ap length charts)) work bound room;
-      tenants = fits (work_of before.live.line) (work_of now.live.line) n before.tenants_left now.tenants_left has.tenants work bound left;
-    }
-  where
-    fits : (w v m a b : ℕ) → w + taken_at_most m + 2 ≤ a → v ≤ w + m → v ≤ IN_CAPACITY + 1 → b ≡ a → v + taken_at_most 0 + 2 ≤ b
-    fits w v m a b has work bound left = omega arith
-
-    held : (k w v m a b : ℕ) → k + w + taken_at_most m + 2 ≤ a → v ≤ w + m → v ≤ IN_CAPACITY + 1 → b ≡ a → k + v + taken_at_most 0 + 2 ≤ b
-    held k w v m a b has work bound room = omega arith
+    → work_of now.live.line ≤ work_of before.live.line + taken_at_most n → HasRoom n before → HasRoom 0 now
+event_room before now n charts room left work has = record {
+  charts = omega (arith, has.charts, ap length charts, room, work);
+  tenants = omega (arith, has.tenants, left, work);
+}
 
 -- so many charts and tenants were asked for, as many as there may be heads
 pub asked_room : (before now : PlaceParts) (bytes free asked : ℕ) → now.live ≡ before.live → now.tenants_left ≡ before.tenants_left
@@ -216,7 +208,7 @@ due_is limits l =
 -- beside the slot no request is open
 pub idle_closed : (idle : Option Idle) (i : Idle) (limits : Limits) (s : SlotParts) → idle ≡ Some i → IsSeated idle limits s → is_open_at s.processor.stage ≡ false
 idle_closed None i limits s is seated = cc
-idle_closed (Some k) i limits s is seated = ap (λ (q : ProcessorParts). is_open_at q.stage) seated.1
+idle_closed (Some k) i limits s is seated = ap (λ (q : SlotParts). is_open_at q.processor.stage) seated
 
 pub not_some : {X : Type 0} (o : Option X) → is_some o ≡ false → o ≡ None
 not_some None e = refl
@@ -224,7 +216,7 @@ not_some (Some x) e = cc
 
 pub some_closed : (idle : Option Idle) (limits : Limits) (s : SlotParts) → is_some idle ≡ true → IsSeated idle limits s → is_open_at s.processor.stage ≡ false
 some_closed None limits s is seated = cc
-some_closed (Some k) limits s is seated = ap (λ (q : ProcessorParts). is_open_at q.stage) seated.1
+some_closed (Some k) limits s is seated = ap (λ (q : SlotParts). is_open_at q.processor.stage) seated
 
 open_not_free : (st : Stage) → is_open_at st ≡ true → is_free_at st ≡ false
 open_not_free stage.Free o = cc
@@ -239,7 +231,7 @@ module _ (limits : Limits) (s r : SlotParts) (charts : List (List ChartItem)) (t
   pub seated_turn : (rules : List Rule) (idle : Option Idle) (p : LiveParts) → idle ≡ None → IsSeated idle limits s → is_over_at p.processor.stage ≡ false → SettlesEach rules p (live_of limits s idle charts)
       → length charts ≡ length p.charts → limits ≡ p.limits → (line_at idle s).moment ≡ p.line.moment
       → (reaches tenancy s ≡ true → AnswersEachTurn (line_in s) s.processor reply (line_in r) r.processor)
-      → (T : Trace) → Lives T p → AnswersTurn p rules T (settled p.limits rules p.line.moment T) reply (live_of limits r idle charts)
+      → (T : Trace) → Lives T p → AnswersTurn p T (settled p.limits rules p.line.moment T) reply (live_of limits r idle charts)
   seated_turn rules (Some i) p none seated kept_before settles equal same_limits same_moment answers T lives = cc
   seated_turn rules None p none seated kept_before settles equal same_limits same_moment answers T lives =
       let here = seated_reaches None limits s tenancy refl seated kept same in
@@ -262,6 +254,12 @@ module _ (limits : Limits) (s r : SlotParts) (charts : List (List ChartItem)) (t
 
 -- ---- an act
 
+-- a request that an act ended leaves its slot
+pub record EndsAs (p mid : LiveParts) : Type 0 where
+  pub lives : (T : Trace) → Lives T p → Lives T mid
+  pub limits : mid.limits ≡ p.limits
+  pub line : mid.line ≡ p.line
+
 module _ (limits : Limits) (s r : SlotParts) (charts : List (List ChartItem)) (tenancy : ℕ) (a : Act) (b into : List ℕ) (reply : Reply) (rest : KeepsAllElse s r) (same : tenancy ≡ s.tenancy) (kept : is_over_at s.processor.stage ≡ false)
     (later : reaches tenancy s ≡ true → (line_in r).moment ≡ max (line_in s).moment 0) (empty : into ≡ [])
     (answers : reaches tenancy s ≡ true → AnswersEachAct a b (line_in s) s.processor reply into (line_in r) r.processor) where
@@ -272,42 +270,29 @@ module _ (limits : Limits) (s r : SlotParts) (charts : List (List ChartItem)) (t
       seated_place limits s r spare None None charts charts room room refl refl place rest (opened here)
       (act_alive a b into (live_of limits s None charts) reply (line_in r) r.processor place.alive (open_by s.processor.stage place.seated.1 kept) rest.limits (answers here))
 
-  pub acted_refused : (rules : List Rule) (idle : Option Idle) → idle ≡ None → IsSeated idle limits s → is_refusal reply ≡ true → (T : Trace) → Lives T (live_of limits s idle charts)
-      → AnswersLive (callback_reply limits T a) (after_callback limits rules (line_at idle s).moment T a b) (plain reply) (live_of limits r idle charts)
-  acted_refused rules (Some i) none seated refused T lives = cc
-  acted_refused rules None none seated refused T lives =
+  pub acted : (idle : Option Idle) (new : LiveParts) → idle ≡ None → IsSeated idle limits s → EndsAs (live_of limits r idle charts) new → (T : Trace) → Lives T (live_of limits s idle charts)
+      → AnswersLive (callback_reply limits T a) (rested_callback limits (line_at idle s).moment T a b) (plain reply) new
+  acted (Some i) new none seated ends T lives = cc
+  acted None new none seated ends T lives =
       let here = seated_reaches None limits s tenancy refl seated kept same in
-      refused_lives rules a b into reply T (live_of limits s None charts) (line_in r) r.processor refused (open_by s.processor.stage seated.1 kept) lives (later here) rest.limits empty (answers here)
+      let w = act_told a b into reply T (live_of limits s None charts) (line_in r) r.processor (open_by s.processor.stage seated.1 kept) lives (later here) rest.limits empty (answers here) in
+      record { reply = w.reply; lives = ends.lives (rested_callback limits (line_in s).moment T a b) w.lives }
 
-  pub refused_still : (idle : Option Idle) → idle ≡ None → IsSeated idle limits s → IsAlive (live_of limits s idle charts) → is_refusal reply ≡ true → KeepsEach (live_of limits s idle charts) (live_of limits r idle charts)
-  refused_still (Some i) none seated alive refused = cc
-  refused_still None none seated alive refused =
+  pub acted_keeps : (idle : Option Idle) (new : LiveParts) → idle ≡ None → IsSeated idle limits s → EndsAs (live_of limits r idle charts) new → is_over_at new.processor.stage ≡ false
+      → KeepsEach (live_of limits s idle charts) new
+  acted_keeps (Some i) new none seated ends kept_now = cc
+  acted_keeps None new none seated ends kept_now =
       let here = seated_reaches None limits s tenancy refl seated kept same in
-      refused_keeps a b into reply (live_of limits s None charts) (line_in r) r.processor alive refused (open_by s.processor.stage seated.1 kept) (later here) empty (answers here)
-
-  pub acted : (rules : List Rule) (idle : Option Idle) (new : LiveParts) → idle ≡ None → IsSeated idle limits s → SettlesEach rules (live_of limits r idle charts) new → (T : Trace) → Lives T (live_of limits s idle charts)
-      → AnswersLive (callback_reply limits T a) (after_callback limits rules (line_at idle s).moment T a b) (plain reply) new
-  acted rules (Some i) new none seated settles T lives = cc
-  acted rules None new none seated settles T lives =
-      let here = seated_reaches None limits s tenancy refl seated kept same in
-      act_lives rules a b into reply T (live_of limits s None charts) new (line_in r) r.processor (open_by s.processor.stage seated.1 kept) lives (later here) rest.limits empty (answers here) settles
-
--- ---- a request that an act ended leaves its slot before what follows is settled
-
-pub record EndsAs (p mid : LiveParts) : Type 0 where
-  pub lives : (T : Trace) → Lives T p → Lives T mid
-  pub limits : mid.limits ≡ p.limits
-  pub line : mid.line ≡ p.line
-
-pub settles_behind : (rules : List Rule) (p mid new : LiveParts) → EndsAs p mid → SettlesEach rules mid new → SettlesEach rules p new
-settles_behind rules p mid new ends settles T lives =
-    subst (λ (k : Limits). Lives (settled k rules p.line.moment T) new) ends.limits
-    (subst (λ (l : LineParts). Lives (settled mid.limits rules l.moment T) new) ends.line (settles T (ends.lives T lives)))
+      record {
+        limits = ends.limits;
+        moment = ap (λ (l : LineParts). l.moment) ends.line ∙ later here ∙ omega arith;
+        kept = λ was. kept_now;
+      }
 
 -- no tenancy is gone while the tenant stays
 pub same_tenants : (spare : Option SlotParts) (s r : SlotParts) → KeepsAllElse s r → tenants_by spare r ≡ tenants_by spare s
 same_tenants None s r rest = ap (λ (q : SlotParts). GREATEST_TENANCY - q.tenancy) rest.same
-same_tenants (Some spare) s r rest = refl
+same_tenants (Some spare) s r rest = ap (λ (q : SlotParts). GREATEST_TENANCY - q.tenancy + GREATEST_TENANCY) rest.same
 
 -- the chart and the tenancy that an act may take were asked for
 pub act_room : (before now : PlaceParts) → length now.live.charts ≤ length before.live.charts + 1 → now.chart_room ≡ before.chart_room → before.tenants_left ≤ now.tenants_left + 1

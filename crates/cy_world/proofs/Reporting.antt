@@ -23,7 +23,7 @@ use Rattle.cy_world.specs.Reporting.{connections_text, text_of}
 use Rattle.cy_world.specs.Told.{is_clock}
 use Rattle.cy_world.specs.Worlds.{CanTake, IsWorld, StandsFor, StandsForAdmitted, StandsForOne, WorldParts, find_in}
 use Rattle.cy_world.specs.declared.seat.Account.{Account}
-use Rattle.cy_world.specs.declared.settings.Settings.{Settings}
+use Rattle.cy_world.specs.declared.terms.Terms.{Terms}
 use Rattle.cy_world.specs.declared.world.Admitted.{Admitted}
 use Rattle.cy_world.specs.declared.world.Admitted.TheVariants.{Seated, Gone}
 use Rattle.cy_world.proofs.Counting.{none_last, still_none}
@@ -56,7 +56,7 @@ none_new limits rules c (step.Run d ∷ w) new = still_none (moment w) d c on_ru
 none_new limits rules c (step.Act d a b ∷ w) new = still_none (moment w) d c (on_act a b) (connections limits rules w) (none_new limits rules c w new)
 
 -- the book has the numbers of the connections
-both_known : (s : Settings) (seats : List SeatParts) (c : ℕ) (o : Option (List (ℕ × Entry))) (a : Option Admitted) → StandsForOne s seats c o a → is_some a ≡ is_some o
+both_known : (s : Terms) (seats : List SeatParts) (c : ℕ) (o : Option (List (ℕ × Entry))) (a : Option Admitted) → StandsForOne s seats c o a → is_some a ≡ is_some o
 both_known s seats c None None stands = refl
 both_known s seats c None (Some a) stands = absurd stands
 both_known s seats c (Some entries) None stands = absurd stands
@@ -66,11 +66,11 @@ none_booked : (o : Option (List (ℕ × Entry))) (a : Option Admitted) → is_so
 none_booked o None same none = refl
 none_booked o (Some a) same none = let clash : true ≡ false = same ∙ ap is_some none in cc
 
-can_take : (s : Step) (w : List Step) (p : WorldParts) → IsValid (s ∷ w) → is_clock s ≡ false → StandsFor w p → CanTake s p
+pub can_take : (s : Step) (w : List Step) (p : WorldParts) → IsValid (s ∷ w) → is_clock s ≡ false → StandsFor w p → CanTake s p
 can_take (step.At t) w p valid none stands = cc
 can_take (step.Admit c) w p valid none stands =
-    let o = find_own c (connections p.settings.limits p.settings.rules w) in
-    none_booked o (find_in c p.book) (both_known p.settings p.seats c o (find_in c p.book) (stands.each c)) (none_new p.settings.limits p.settings.rules c w valid.1.1)
+    let o = find_own c (connections p.terms.limits p.terms.rules w) in
+    none_booked o (find_in c p.book) (both_known p.terms p.seats c o (find_in c p.book) (stands.each c)) (none_new p.terms.limits p.terms.rules c w valid.1.1)
 can_take (step.On c e b) w p valid none stands = tt
 can_take (step.Run c) w p valid none stands = tt
 can_take (step.Act c a b) w p valid none stands = valid.1.1
@@ -143,19 +143,19 @@ reply_lines_more limits rules s w i r count is =
 pub book_tells : (w : List Step) (p : WorldParts) → StandsFor w p → IsStrictlySortedBy nat_cmp (keys_of p.book)
     → flat_map (λ (e : ℕ × Admitted). text_of p w e.0) p.book ≡ connections_text p w
 book_tells w p stands sorted =
-    let hs = connections p.settings.limits p.settings.rules w in
-    told_by_book p.settings.limits p.settings.rules hs p.book stands.distinct sorted
-    (λ c. both_known p.settings p.seats c (find_own c hs) (find_in c p.book) (stands.each c))
+    let hs = connections p.terms.limits p.terms.rules w in
+    told_by_book p.terms.limits p.terms.rules hs p.book stands.distinct sorted
+    (λ c. both_known p.terms p.seats c (find_own c hs) (find_in c p.book) (stands.each c))
 
 -- the lines of all steps, and then those of all connections
-pub report_is : (steps : List Step) (i : ℕ) (p : WorldParts) (s : Settings) (before text : List ℕ) → length steps ≤ i → p.settings ≡ s
-    → before ≡ reply_lines 1 (replies p.settings.limits p.settings.rules (reverse (take i steps))) → text ≡ before ++ connections_text p (reverse (take i steps)) → text ≡ report s.limits s.rules steps
+pub report_is : (steps : List Step) (i : ℕ) (p : WorldParts) (s : Terms) (before text : List ℕ) → length steps ≤ i → p.terms ≡ s
+    → before ≡ reply_lines 1 (replies p.terms.limits p.terms.rules (reverse (take i steps))) → text ≡ before ++ connections_text p (reverse (take i steps)) → text ≡ report s.limits s.rules steps
 unfolding report
-report_is steps i p s before text h settings replied told =
+report_is steps i p s before text h terms replied told =
     told
     ∙ ap (λ (u : List ℕ). u ++ connections_text p (reverse (take i steps))) replied
-    ∙ ap (λ (us : List Step). reply_lines 1 (replies p.settings.limits p.settings.rules (reverse us)) ++ connections_text p (reverse us)) (take_all i steps h)
-    ∙ ap (λ (q : Settings). report q.limits q.rules steps) settings
+    ∙ ap (λ (us : List Step). reply_lines 1 (replies p.terms.limits p.terms.rules (reverse us)) ++ connections_text p (reverse us)) (take_all i steps h)
+    ∙ ap (λ (q : Terms). report q.limits q.rules steps) terms
 
 pub length_so_far : (steps : List Step) (i : ℕ) → i < length steps → length (reverse (take i steps)) ≡ i
 length_so_far steps i h = length-reverse (take i steps) ∙ length-take-le i steps (omega (arith, h))
@@ -165,22 +165,22 @@ length_so_far steps i h = length-reverse (take i steps) ∙ length-take-le i ste
 -- what the book says of it is right
 pub record IsKnown (w : List Step) (p : WorldParts) (c : ℕ) (a : Admitted) : Type 0 where
   pub entries : List (ℕ × Entry)
-  pub is : find_own c (connections p.settings.limits p.settings.rules w) ≡ Some entries
-  pub stands : StandsForAdmitted p.settings p.seats c (trace_of p.settings.limits p.settings.rules entries) a
+  pub is : find_own c (connections p.terms.limits p.terms.rules w) ≡ Some entries
+  pub stands : StandsForAdmitted p.terms p.seats c (trace_of p.terms.limits p.terms.rules entries) a
 
 pub known : (w : List Step) (p : WorldParts) (c : ℕ) (a : Admitted) → StandsFor w p → find_in c p.book ≡ Some a → IsKnown w p c a
 known w p c a stands booked =
-    by_entries (find_own c (connections p.settings.limits p.settings.rules w)) refl
-    (subst (λ (b : Option Admitted). StandsForOne p.settings p.seats c (find_own c (connections p.settings.limits p.settings.rules w)) b) booked (stands.each c))
+    by_entries (find_own c (connections p.terms.limits p.terms.rules w)) refl
+    (subst (λ (b : Option Admitted). StandsForOne p.terms p.seats c (find_own c (connections p.terms.limits p.terms.rules w)) b) booked (stands.each c))
   where
-    by_entries : (o : Option (List (ℕ × Entry))) → find_own c (connections p.settings.limits p.settings.rules w) ≡ o → StandsForOne p.settings p.seats c o (Some a) → IsKnown w p c a
+    by_entries : (o : Option (List (ℕ × Entry))) → find_own c (connections p.terms.limits p.terms.rules w) ≡ o → StandsForOne p.terms p.seats c o (Some a) → IsKnown w p c a
     by_entries None is one = absurd one
     by_entries (Some entries) is one = record { entries = entries; is = is; stands = one }
 
 -- its lines are those of its trace
-pub known_text : (w : List Step) (p : WorldParts) (c : ℕ) (a : Admitted) (k : IsKnown w p c a) → text_of p w c ≡ trace_text c (trace_of p.settings.limits p.settings.rules k.entries)
+pub known_text : (w : List Step) (p : WorldParts) (c : ℕ) (a : Admitted) (k : IsKnown w p c a) → text_of p w c ≡ trace_text c (trace_of p.terms.limits p.terms.rules k.entries)
 known_text w p c a k =
-    ap (λ (o : Option (List (ℕ × Entry))). unwrap_or (option_map (λ (entries : List (ℕ × Entry)). trace_text c (trace_of p.settings.limits p.settings.rules entries)) o) []) k.is
+    ap (λ (o : Option (List (ℕ × Entry))). unwrap_or (option_map (λ (entries : List (ℕ × Entry)). trace_text c (trace_of p.terms.limits p.terms.rules entries)) o) []) k.is
 
 -- the place that the book names
 pub record IsPlaceAt (p : WorldParts) (i : ℕ) : Type 0 where
@@ -200,17 +200,17 @@ place_known p c i world booked =
 
 -- what was told of the place is told of the connection
 pub seated_text : (w : List Step) (p : WorldParts) (c i : ℕ) (seat : SeatParts) (before text : List ℕ) → StandsFor w p → find_in c p.book ≡ Some (Seated i) → seat ≡ get_or p.seats i seat
-    → ((s : Settings) (T : Trace) → Keeps s T (seat_parts seat) → text ≡ before ++ trace_text c T) → text ≡ before ++ text_of p w c
+    → ((s : Terms) (T : Trace) → Keeps s T (seat_parts seat) → text ≡ before ++ trace_text c T) → text ≡ before ++ text_of p w c
 seated_text w p c i seat before text stands booked is told =
     let k = known w p c (Seated i) stands booked in
     let v = k.stands.0 in
-    let T = trace_of p.settings.limits p.settings.rules k.entries in
-    told p.settings T (subst (λ (one : SeatParts). Keeps p.settings T (seat_parts one)) (sym (seat_is p.seats i v.seat seat v.there is)) v.keeps)
+    let T = trace_of p.terms.limits p.terms.rules k.entries in
+    told p.terms T (subst (λ (one : SeatParts). Keeps p.terms T (seat_parts one)) (sym (seat_is p.seats i v.seat seat v.there is)) v.keeps)
     ∙ ap (λ (u : List ℕ). before ++ u) (sym (known_text w p c (Seated i) k))
 
 pub gone_text : (w : List Step) (p : WorldParts) (c : ℕ) (a : Account) (before text : List ℕ) → StandsFor w p → find_in c p.book ≡ Some (Gone a)
     → ((T : Trace) → Tells T a → text ≡ before ++ trace_text c T) → text ≡ before ++ text_of p w c
 gone_text w p c a before text stands booked told =
     let k = known w p c (Gone a) stands booked in
-    told (trace_of p.settings.limits p.settings.rules k.entries) k.stands.tells
+    told (trace_of p.terms.limits p.terms.rules k.entries) k.stands.tells
     ∙ ap (λ (u : List ℕ). before ++ u) (sym (known_text w p c (Gone a) k))

@@ -15,29 +15,32 @@ use Rattle.cy_model.specs.Replies.{plain}
 use Rattle.cy_model.proofs.OwnEntries.{own_steps_add_own_entries}
 use Rattle.cy_proc.specs.Processors.{is_over_at}
 use Rattle.cy_slot.specs.Reaching.{Who}
-use Rattle.cy_world.specs.Answered.{AnswersEach, IsSameButRooms, Keeps, SeatParts, seat_parts, start}
+use Rattle.cy_world.specs.Answered.{AnswersEach, IsSameButRooms, Keeps, SeatParts, entry_by, seat_parts, start}
 use Rattle.cy_world.specs.Worlds.{ArePlaces, AreDistinct, IsOwnOf, IsPlaceOf, IsSeatedFor, StandsFor, StandsForOne, WorldParts, find_in}
-use Rattle.cy_world.specs.Places.{LiveParts, Lives, PlaceParts}
-use Rattle.cy_world.specs.declared.settings.Settings.{Settings}
+use Rattle.cy_world.specs.Counts.{AddUp}
+use Rattle.cy_world.specs.Places.{CountsHeads, IsInItsSlot, LiveParts, Lives, PlaceParts}
+use Rattle.cy_world.specs.declared.terms.Terms.{Terms}
 use Rattle.cy_world.specs.declared.world.Admitted.{Admitted}
 use Rattle.cy_world.specs.declared.world.Admitted.TheVariants.{Seated, Gone}
 use Rattle.cy_world.proofs.Counting.{count_own, distinct_own, one}
 use Rattle.cy_world.proofs.Elements.{get-set_other, get-set_same}
+use Rattle.cy_world.proofs.Tenants.{entry_adds, same_adds}
+use Rattle.cy_world.proofs.Visits.{still_in_slot}
 
 -- ---- a connection that has a place
 
 -- the connections that were admitted
 abbrev pub all_of : WorldParts → List Step → List History
-all_of p w = connections p.settings.limits p.settings.rules w
+all_of p w = connections p.terms.limits p.terms.rules w
 
 -- a number that the book has a place for is that of a connection with entries, which isn't gone
-pub record IsFound (s : Settings) (seats : List SeatParts) (c i : ℕ) (o : Option (List (ℕ × Entry))) : Type 0 where
+pub record IsFound (s : Terms) (seats : List SeatParts) (c i : ℕ) (o : Option (List (ℕ × Entry))) : Type 0 where
   pub entries : List (ℕ × Entry)
   pub is : o ≡ Some entries
   pub seated : IsSeatedFor s seats c (trace_of s.limits s.rules entries) i
   pub here : is_gone (trace_of s.limits s.rules entries) ≡ false
 
-pub found : (s : Settings) (seats : List SeatParts) (c i : ℕ) (o : Option (List (ℕ × Entry))) (a : Option Admitted) → a ≡ Some (Seated i) → StandsForOne s seats c o a → IsFound s seats c i o
+pub found : (s : Terms) (seats : List SeatParts) (c i : ℕ) (o : Option (List (ℕ × Entry))) (a : Option Admitted) → a ≡ Some (Seated i) → StandsForOne s seats c o a → IsFound s seats c i o
 found s seats c i None a is stands = absurd (subst (λ (b : Option Admitted). StandsForOne s seats c None b) is stands)
 found s seats c i (Some entries) a is stands =
     let w = subst (λ (b : Option Admitted). StandsForOne s seats c (Some entries) b) is stands in
@@ -49,7 +52,7 @@ pub some : {X : Type 0} (x y : X) → Some x ≡ Some y → x ≡ y
 some x y e = cc
 
 -- two connections have two places
-apart : (s : Settings) (seats : List SeatParts) (c d i j : ℕ) (T R : Trace) → IsSeatedFor s seats c T i → IsSeatedFor s seats d R j → d ≢ c → j ≢ i
+apart : (s : Terms) (seats : List SeatParts) (c d i j : ℕ) (T R : Trace) → IsSeatedFor s seats c T i → IsSeatedFor s seats d R j → d ≢ c → j ≢ i
 apart s seats c d i j T R mine other away same =
     let seat : other.seat ≡ mine.seat = some other.seat mine.seat (sym other.there ∙ ap (slice_get seats) same ∙ mine.there) in
     let who : Some d ≡ Some c =
@@ -57,7 +60,7 @@ apart s seats c d i j T R mine other away same =
     away (some d c who)
 
 -- what stands in another place goes on
-pub others_stay : (s : Settings) (seats now : List SeatParts) (c d i : ℕ) (T : Trace) (o : Option (List (ℕ × Entry))) (a : Option Admitted) → IsSeatedFor s seats c T i → d ≢ c
+pub others_stay : (s : Terms) (seats now : List SeatParts) (c d i : ℕ) (T : Trace) (o : Option (List (ℕ × Entry))) (a : Option Admitted) → IsSeatedFor s seats c T i → d ≢ c
     → ((j : ℕ) → j ≢ i → slice_get now j ≡ slice_get seats j) → StandsForOne s seats d o a → StandsForOne s now d o a
 others_stay s seats now c d i T None None mine away stay stands = tt
 others_stay s seats now c d i T None (Some a) mine away stay stands = absurd stands
@@ -82,16 +85,17 @@ pub record StandsBut (c i : ℕ) (T : Trace) (w : List Step) (p : WorldParts) : 
   pub distinct : AreDistinct (all_of p w)
   pub entries : List (ℕ × Entry)
   pub own : find_own c (all_of p w) ≡ Some entries
-  pub trace : trace_of p.settings.limits p.settings.rules entries ≡ T
+  pub trace : trace_of p.terms.limits p.terms.rules entries ≡ T
   pub booked : find_in c p.book ≡ Some (Seated i)
-  pub seated : IsSeatedFor p.settings p.seats c T i
-  pub others : (d : ℕ) → d ≢ c → StandsForOne p.settings p.seats d (find_own d (all_of p w)) (find_in d p.book)
-  pub counts : count_out p.latch ≡ counted p.settings.limits p.settings.rules (all_of p w) + cond (is_gone T) 1 0
+  pub seated : IsSeatedFor p.terms p.seats c T i
+  pub others : (d : ℕ) → d ≢ c → StandsForOne p.terms p.seats d (find_own d (all_of p w)) (find_in d p.book)
+  pub counts : count_out p.latch ≡ counted p.terms.limits p.terms.rules (all_of p w) + cond (is_gone T) 1 0
   pub places : ArePlaces p
+  pub tenancies : AddUp p.terms p.seats (all_of p w)
 
 -- the entry is answered by the definition
 pub record TakesEntry (c i : ℕ) (w : List Step) (s : Step) (old : WorldParts) (r : Reply) (new : WorldParts) : Type 0 where
-  pub reply : plain r ≡ reply_by old.settings.limits old.settings.rules (kind_of s) (moment (s ∷ w)) (all_of old w)
+  pub reply : plain r ≡ reply_by old.terms.limits old.terms.rules (kind_of s) (moment (s ∷ w)) (all_of old w)
   pub trace : Trace
   pub stands : StandsBut c i trace (s ∷ w) new
 
@@ -104,41 +108,44 @@ counts_one false n before now same e = omega (arith, same, e)
 
 -- the places after one of them went on
 places_go_on : (p : WorldParts) (i : ℕ) (seat new : SeatParts) → ArePlaces p → slice_get p.seats i ≡ Some seat → new.place.who ≡ seat.place.who → is_some seat.place.who ≡ true
-    → is_over_at new.place.live.processor.stage ≡ false → ArePlaces (record p { seats = set p.seats i new })
-places_go_on p i seat new places there who some_one kept = record {
+    → is_over_at new.place.live.processor.stage ≡ false → IsInItsSlot new.place → ArePlaces (record p { seats = set p.seats i new })
+places_go_on p i seat new places there who some_one kept slot = record {
   each = λ j k at. by_place j k (cases_eq j i) at;
   seats = length-set p.seats i new ∙ places.seats;
   latch = places.latch;
 }
   where
-    mine : (k : SeatParts) → slice_get (set p.seats i new) i ≡ Some k → IsPlaceOf p.settings i (is_out p.latch i) k
+    mine : (k : SeatParts) → slice_get (set p.seats i new) i ≡ Some k → IsPlaceOf p.terms i (is_out p.latch i) k
     mine k at =
         let was = places.each i seat there in
         let out : is_out p.latch i ≡ true = sym was.held ∙ some_one in
         let is : new ≡ k = some new k (sym (get-set_same p.seats i seat new there) ∙ at) in
-        subst (IsPlaceOf p.settings i (is_out p.latch i)) is (record {
+        subst (IsPlaceOf p.terms i (is_out p.latch i)) is (record {
           held = ap is_some who ∙ was.held;
           share = λ w h. was.share w (sym who ∙ h);
           kept = kept;
+          slot = slot;
           vacant = λ none. absurd (true_is_not_false (sym out ∙ none));
         })
 
-    by_place : (j : ℕ) (k : SeatParts) → (j ≡ i) ⊎ (j ≡ i → ⊥) → slice_get (set p.seats i new) j ≡ Some k → IsPlaceOf p.settings j (is_out p.latch j) k
+    by_place : (j : ℕ) (k : SeatParts) → (j ≡ i) ⊎ (j ≡ i → ⊥) → slice_get (set p.seats i new) j ≡ Some k → IsPlaceOf p.terms j (is_out p.latch j) k
     by_place j k (inl e) at =
-        subst (λ (n : ℕ). IsPlaceOf p.settings n (is_out p.latch n) k) (sym e) (mine k (subst (λ (n : ℕ). slice_get (set p.seats i new) n ≡ Some k) e at))
+        subst (λ (n : ℕ). IsPlaceOf p.terms n (is_out p.latch n) k) (sym e) (mine k (subst (λ (n : ℕ). slice_get (set p.seats i new) n ≡ Some k) e at))
     by_place j k (inr other) at = places.each j k (sym (get-set_other p.seats i j new other) ∙ at)
 
 pub entry_stands : (w : List Step) (s : Step) (c i : ℕ) (e : Entry) (p : WorldParts) (seat new : SeatParts) (r : Reply) → kind_of s ≡ own c e → StandsFor w p → find_in c p.book ≡ Some (Seated i)
-    → slice_get p.seats i ≡ Some seat → new.place.who ≡ seat.place.who → is_over_at new.place.live.processor.stage ≡ false
-    → AnswersEach p.settings e (seat_parts seat) r (seat_parts new) → TakesEntry c i w s p r (record p { seats = set p.seats i new })
-entry_stands w s c i e p seat new r kind stands booked there who kept answers =
-    let limits = p.settings.limits in
-    let rules = p.settings.rules in
+    → slice_get p.seats i ≡ Some seat → new.place.who ≡ seat.place.who → is_over_at new.place.live.processor.stage ≡ false → CountsHeads seat.place new.place → IsInItsSlot new.place
+    → AnswersEach p.terms e (seat_parts seat) r (seat_parts new) → TakesEntry c i w s p r (record p { seats = set p.seats i new })
+entry_stands w s c i e p seat new r kind stands booked there who kept counts slot answers =
+    let limits = p.terms.limits in
+    let rules = p.terms.rules in
     let hs = all_of p w in
-    let f = found p.settings p.seats c i (find_own c hs) (find_in c p.book) booked (stands.each c) in
+    let f = found p.terms p.seats c i (find_own c hs) (find_in c p.book) booked (stands.each c) in
     let T = trace_of limits rules f.entries in
     let is : f.seated.seat ≡ seat = some f.seated.seat seat (sym f.seated.there ∙ there) in
-    let answered = answers T (subst (λ (k : SeatParts). Keeps p.settings T (seat_parts k)) is f.seated.keeps) f.here in
+    let keeps = subst (λ (k : SeatParts). Keeps p.terms T (seat_parts k)) is f.seated.keeps in
+    let answered = answers T keeps f.here in
+    let guest : is_some seat.place.who ≡ true = ap (λ (k : SeatParts). is_some k.place.who) (sym is) ∙ ap is_some f.seated.who in
     let at : moment (s ∷ w) ≡ start = ap (λ (k : Kind). moment_after k (moment w)) kind ∙ stands.moment in
     let all : connections limits rules (s ∷ w) ≡ add_own start c e hs =
     ap (λ (k : Kind). with_step limits rules k (moment (s ∷ w)) hs) kind ∙ ap (λ (t : ℕ). add_own t c e hs) at in
@@ -169,23 +176,25 @@ entry_stands w s c i e p seat new r kind stands booked there who kept answers =
           keeps = answered.keeps;
         };
         others = λ d away.
-            subst (λ (o : Option (List (ℕ × Entry))). StandsForOne p.settings (set p.seats i new) d o (find_in d p.book)) (sym (law.other d away))
-            (others_stay p.settings p.seats (set p.seats i new) c d i T (find_own d hs) (find_in d p.book) f.seated away (λ j other. get-set_other p.seats i j new other) (stands.each d));
+            subst (λ (o : Option (List (ℕ × Entry))). StandsForOne p.terms (set p.seats i new) d o (find_in d p.book)) (sym (law.other d away))
+            (others_stay p.terms p.seats (set p.seats i new) c d i T (find_own d hs) (find_in d p.book) f.seated away (λ j other. get-set_other p.seats i j new other) (stands.each d));
         counts = counts_one (is_gone (after limits rules start T e)) (count_out p.latch) (counted limits rules hs) (counted limits rules (connections limits rules (s ∷ w))) stands.counted
             (omega (arith, ap (counted limits rules) all, one_more, one_was));
-        places = places_go_on p i seat new stands.places there who (ap (λ (k : SeatParts). is_some k.place.who) (sym is) ∙ ap is_some f.seated.who) kept;
+        places = places_go_on p i seat new stands.places there who guest kept slot;
+        tenancies = subst (AddUp p.terms (set p.seats i new)) (sym all)
+            (entry_adds p.terms hs c i e f.entries p.seats seat new stands.distinct f.is there keeps.lives answered.keeps.lives (stands.places.each i seat there).slot slot guest (ap is_some who ∙ guest) counts stands.tenancies);
       };
     }
 
 -- ---- what is known of the place of a connection
 
--- an entry of a connection, by its step
-pub entry_of_step : (c : ℕ) (s : Step) → IsOwnOf c s → (e : Entry) × (kind_of s ≡ own c e)
-entry_of_step c (step.At t) is = absurd is
-entry_of_step c (step.Admit d) is = absurd is
-entry_of_step c (step.On d e b) is = (on_event e b, ap (λ (n : ℕ). own n (on_event e b)) is)
-entry_of_step c (step.Run d) is = (on_run, ap (λ (n : ℕ). own n on_run) is)
-entry_of_step c (step.Act d a b) is = (on_act a b, ap (λ (n : ℕ). own n (on_act a b)) is)
+-- the step is an entry of the connection
+pub kind_of_own : (c : ℕ) (s : Step) → IsOwnOf c s → kind_of s ≡ own c (entry_by s)
+kind_of_own c (step.At t) is = absurd is
+kind_of_own c (step.Admit d) is = absurd is
+kind_of_own c (step.On d e b) is = ap (λ (n : ℕ). own n (on_event e b)) is
+kind_of_own c (step.Run d) is = ap (λ (n : ℕ). own n on_run) is
+kind_of_own c (step.Act d a b) is = ap (λ (n : ℕ). own n (on_act a b)) is
 
 -- the book has a place for the number
 pub record HasPlace (p : WorldParts) (i : ℕ) : Type 0 where
@@ -196,7 +205,7 @@ pub record HasPlace (p : WorldParts) (i : ℕ) : Type 0 where
 
 pub has_place : (w : List Step) (p : WorldParts) (c i : ℕ) → StandsFor w p → find_in c p.book ≡ Some (Seated i) → HasPlace p i
 has_place w p c i stands booked =
-    let f = found p.settings p.seats c i (find_own c (all_of p w)) (find_in c p.book) booked (stands.each c) in
+    let f = found p.terms p.seats c i (find_own c (all_of p w)) (find_in c p.book) booked (stands.each c) in
     let seat = f.seated.seat in
     record {
       seat = seat;
@@ -209,7 +218,7 @@ has_place w p c i stands booked =
 same_parts : (seat new : SeatParts) → IsSameButRooms seat new → seat_parts new ≡ seat_parts seat
 same_parts seat new same = λ k. record { live = (ap (λ (p : PlaceParts). p.live) same.place) k; written = same.written k }
 
-pub same_place : (s : Settings) (j : ℕ) (out : Bool) (seat new : SeatParts) → IsSameButRooms seat new → IsPlaceOf s j out seat → IsPlaceOf s j out new
+pub same_place : (s : Terms) (j : ℕ) (out : Bool) (seat new : SeatParts) → IsSameButRooms seat new → IsPlaceOf s j out seat → IsPlaceOf s j out new
 same_place s j out seat new same place =
     let who : new.place.who ≡ seat.place.who = ap (λ (p : PlaceParts). p.who) same.place in
     let live : new.place.live ≡ seat.place.live = ap (λ (p : PlaceParts). p.live) same.place in
@@ -217,6 +226,7 @@ same_place s j out seat new same place =
       held = ap is_some who ∙ place.held;
       share = λ w h. place.share w (sym who ∙ h);
       kept = ap (λ (l : LiveParts). is_over_at l.processor.stage) live ∙ place.kept;
+      slot = still_in_slot seat.place new.place same.place place.slot;
       vacant = λ free.
           let v = place.vacant free in
           record {
@@ -225,12 +235,13 @@ same_place s j out seat new same place =
             limits = ap (λ (l : LiveParts). l.limits) live ∙ v.limits;
             moment = ap (λ (l : LiveParts). l.line.moment) live ∙ v.moment;
             kept = ap (λ (l : LiveParts). is_over_at l.processor.stage) live ∙ v.kept;
+            slot = still_in_slot seat.place new.place same.place v.slot;
             written = same.written ∙ v.written;
           };
     }
 
 still_one : (p : WorldParts) (i : ℕ) (seat new : SeatParts) (c : ℕ) (o : Option (List (ℕ × Entry))) (a : Option Admitted) → slice_get p.seats i ≡ Some seat → IsSameButRooms seat new
-    → StandsForOne p.settings p.seats c o a → StandsForOne p.settings (set p.seats i new) c o a
+    → StandsForOne p.terms p.seats c o a → StandsForOne p.terms (set p.seats i new) c o a
 still_one p i seat new c None None there same stands = tt
 still_one p i seat new c None (Some a) there same stands = absurd stands
 still_one p i seat new c (Some es) None there same stands = absurd stands
@@ -238,9 +249,9 @@ still_one p i seat new c (Some es) (Some (Gone a)) there same stands = stands
 still_one p i seat new c (Some es) (Some (Seated j)) there same stands = (by_place (cases_eq j i), stands.1)
   where
     T : Trace
-    T = trace_of p.settings.limits p.settings.rules es
+    T = trace_of p.terms.limits p.terms.rules es
 
-    by_place : (j ≡ i) ⊎ (j ≡ i → ⊥) → IsSeatedFor p.settings (set p.seats i new) c T j
+    by_place : (j ≡ i) ⊎ (j ≡ i → ⊥) → IsSeatedFor p.terms (set p.seats i new) c T j
     by_place (inl e) =
         let v = stands.0 in
         let is : v.seat ≡ seat = some v.seat seat (sym v.there ∙ ap (slice_get p.seats) e ∙ there) in
@@ -248,7 +259,7 @@ still_one p i seat new c (Some es) (Some (Seated j)) there same stands = (by_pla
           seat = new;
           there = ap (slice_get (set p.seats i new)) e ∙ get-set_same p.seats i seat new there;
           who = ap (λ (q : PlaceParts). q.who) same.place ∙ ap (λ (k : SeatParts). k.place.who) (sym is) ∙ v.who;
-          keeps = subst (Keeps p.settings T) (ap seat_parts is ∙ sym (same_parts seat new same)) v.keeps;
+          keeps = subst (Keeps p.terms T) (ap seat_parts is ∙ sym (same_parts seat new same)) v.keeps;
         }
     by_place (inr other) =
         let v = stands.0 in
@@ -266,11 +277,12 @@ same_stands w p i seat new stands there same = record {
     seats = length-set p.seats i new ∙ stands.places.seats;
     latch = stands.places.latch;
   };
+  tenancies = same_adds p.terms (all_of p w) i p.seats seat new there (ap (λ (q : PlaceParts). q.slot.tenancy) same.place) stands.tenancies;
 }
   where
-    by_place : (j : ℕ) (k : SeatParts) → (j ≡ i) ⊎ (j ≡ i → ⊥) → slice_get (set p.seats i new) j ≡ Some k → IsPlaceOf p.settings j (is_out p.latch j) k
+    by_place : (j : ℕ) (k : SeatParts) → (j ≡ i) ⊎ (j ≡ i → ⊥) → slice_get (set p.seats i new) j ≡ Some k → IsPlaceOf p.terms j (is_out p.latch j) k
     by_place j k (inl e) at =
         let is : new ≡ k = some new k (sym (get-set_same p.seats i seat new there) ∙ ap (slice_get (set p.seats i new)) (sym e) ∙ at) in
-        subst (IsPlaceOf p.settings j (is_out p.latch j)) is
-        (same_place p.settings j (is_out p.latch j) seat new same (stands.places.each j seat (ap (slice_get p.seats) e ∙ there)))
+        subst (IsPlaceOf p.terms j (is_out p.latch j)) is
+        (same_place p.terms j (is_out p.latch j) seat new same (stands.places.each j seat (ap (slice_get p.seats) e ∙ there)))
     by_place j k (inr other) at = stands.places.each j k (sym (get-set_other p.seats i j new other) ∙ at)

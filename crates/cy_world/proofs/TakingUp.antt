@@ -1,5 +1,5 @@
 -- A connection comes to sit in its slot, and the head that is due is taken up or refused.
-use Rattle.std.proofs.Common.{◌≡◌, ◌≤◌, ◌<◌, ℕ, ◌+◌, ◌-◌, Bool, true, false, ◌&&◌, ◌==◌, List, [], length, Option, Some, None, is_some, refl, sym, ap, ◌∙◌, subst, arith}
+use Rattle.std.proofs.Common.{◌≡◌, ◌≤◌, ◌<◌, ℕ, ◌+◌, ◌-◌, Bool, true, false, ◌&&◌, ◌==◌, List, [], length, Option, Some, None, is_some, refl, sym, ap, ◌∙◌, subst, arith, cond}
 use Rattle.std.proofs.lemmas.Bool.{eq-eqb}
 use Rattle.cy_event.specs.declared.limits.Limits.{Limits}
 use Rattle.cy_event.specs.declared.table.ChartItem.{ChartItem}
@@ -15,7 +15,7 @@ use Rattle.cy_slot.specs.declared.slot.Bound.{Bound}
 use Rattle.cy_slot.specs.declared.slot.Bound.TheVariants as bound
 use Rattle.cy_slot.specs.declared.slot.TheConstants.{GREATEST_TENANCY}
 use Rattle.cy_world.specs.Lives.{SettlesOne}
-use Rattle.cy_world.specs.Places.{HasRoom, IsAlive, IsPlace, IsSeated, PlaceParts, line_at, tenants_by, who_at}
+use Rattle.cy_world.specs.Places.{HasRoom, IsAlive, IsEmpty, IsPlace, IsSeated, PlaceParts, line_at, tenants_by, visits_of, who_at}
 use Rattle.cy_world.specs.declared.place.Idle.{Idle}
 use Rattle.cy_world.proofs.Lives.{opened_lives}
 use Rattle.cy_world.proofs.Places.{live_of, seated_still}
@@ -60,13 +60,17 @@ module _ (limits : Limits) (s b r : SlotParts) (conn : Conn) (tenancy : ℕ) (is
       (subst (λ (l : LineParts). TakesUpEach rules l p.processor (line_in r) r.processor) sits
       (subst (λ (q : ProcessorParts). TakesUpEach rules (line_in b) q (line_in r) r.processor) held takes))
 
-  pub entered_place : (spare : Option SlotParts) (idle after : Option Idle) (charts : List (List ChartItem)) (room : ℕ) → after ≡ None → IsPlace limits s spare idle charts room
+  pub entered_place : (spare : Option SlotParts) (idle after : Option Idle) (charts : List (List ChartItem)) (room : ℕ) → after ≡ None → s.first ≡ 0 → IsPlace limits s spare idle charts room
       → KeepsAllElse b r → is_free_at r.processor.stage ≡ false → IsAlive (live_of limits r after charts) → IsPlace limits r spare after charts room
-  entered_place spare idle (Some i) charts room none place all_else taken alive = cc
-  entered_place spare idle None charts room none place all_else taken alive = record {
+  entered_place spare idle (Some i) charts room none first place all_else taken alive = cc
+  entered_place spare idle None charts room none first place all_else taken alive = record {
     head_room = place.head_room;
     field_room = place.field_room;
-    seated = (seated_still b r (ap (λ (q : SlotParts). is_some q.tenant) is.slot) all_else, taken);
+    seated = (
+      seated_still b r (ap (λ (q : SlotParts). is_some q.tenant) is.slot) all_else,
+      taken,
+      ap (λ (q : SlotParts). q.first) all_else.same ∙ ap (λ (q : SlotParts). q.first) is.slot ∙ first,
+    );
     spare_fresh = place.spare_fresh;
     alive = alive;
   }
@@ -78,7 +82,19 @@ module _ (limits : Limits) (s b r : SlotParts) (conn : Conn) (tenancy : ℕ) (is
   pub entered_tenants : (spare : Option SlotParts) → KeepsAllElse b r → tenants_by spare r ≡ tenants_by spare s
   entered_tenants None all_else =
       ap (λ (n : ℕ). GREATEST_TENANCY - n) (ap (λ (q : SlotParts). q.tenancy) all_else.same ∙ ap (λ (q : SlotParts). q.tenancy) is.slot)
-  entered_tenants (Some spare) all_else = refl
+  entered_tenants (Some spare) all_else =
+      ap (λ (n : ℕ). GREATEST_TENANCY - n + GREATEST_TENANCY) (ap (λ (q : SlotParts). q.tenancy) all_else.same ∙ ap (λ (q : SlotParts). q.tenancy) is.slot)
+
+  -- one more sits there
+  pub entered_visits : KeepsAllElse b r → is_some s.tenant ≡ false → visits_of r ≡ visits_of s + 1
+  entered_visits all_else nobody =
+      omega (
+        arith,
+        ap (λ (q : SlotParts). q.tenancy) all_else.same,
+        ap (λ (q : SlotParts). q.tenancy) is.slot,
+        ap {B = ℕ} (λ (v : Bool). cond v 1 0) (seated_still b r (ap (λ (q : SlotParts). is_some q.tenant) is.slot) all_else),
+        ap {B = ℕ} (λ (v : Bool). cond v 1 0) nobody,
+      )
 
 -- ---- room is left
 
@@ -100,10 +116,16 @@ pub record Enters (rules : List Rule) (limits : Limits) (s r : SlotParts) (spare
   pub at : (line_at after r).moment ≡ (line_at idle s).moment
   pub who : who_at after r ≡ Some (record { share = conn.share; number = conn.number })
   pub tenants : tenants_by spare r ≡ tenants_by spare s
+  pub visits : visits_of r ≡ visits_of s + 1
+  pub nobody : is_some s.tenant ≡ false
 
 idle_fresh : (idle : Option Idle) (i : Idle) (limits : Limits) (s : SlotParts) → idle ≡ Some i → IsSeated idle limits s → s.processor ≡ fresh_processor limits
 idle_fresh None i limits s is seated = cc
-idle_fresh (Some k) i limits s is seated = seated.1
+idle_fresh (Some k) i limits s is seated = ap (λ (q : SlotParts). q.processor) seated
+
+idle_empty : (idle : Option Idle) (i : Idle) (limits : Limits) (s : SlotParts) → idle ≡ Some i → IsSeated idle limits s → IsEmpty limits s
+idle_empty None i limits s is seated = cc
+idle_empty (Some k) i limits s is seated = seated
 
 pub enters : (rules : List Rule) (limits : Limits) (s b r : SlotParts) (spare : Option SlotParts) (idle after : Option Idle) (i : Idle) (charts : List (List ChartItem)) (room : ℕ) (conn : Conn) (tenancy : ℕ) (answer : Bound)
     → idle ≡ Some i → i.line ≡ conn.line → after ≡ None → IsPlace limits s spare idle charts room
@@ -117,17 +139,21 @@ pub enters : (rules : List Rule) (limits : Limits) (s b r : SlotParts) (spare : 
 enters rules limits s b r spare idle after i charts room conn tenancy answer is same none place answered bound_now parts due takes opened uncalled less moment all_else =
     let w = is_bound s b conn tenancy answer answered bound_now parts in
     let fresh = idle_fresh idle i limits s is place.seated in
+    let empty = idle_empty idle i limits s is place.seated in
+    let nobody : is_some s.tenant ≡ false = ap (λ (q : SlotParts). is_some q.tenant) empty in
     let line : line_at idle s ≡ conn.line = ap (λ (o : Option Idle). line_at o s) is ∙ same in
     let may = may_open_bound limits s b r conn tenancy w fresh (ap (is_due limits) (sym line) ∙ due) in
     let one = opens limits s b r conn tenancy w fresh rules idle after charts line none (takes may) moment all_else in
     let sits : line_in b ≡ line_at idle s = ap line_in w.slot ∙ sym line in
     let now : line_at after r ≡ line_in r = ap (λ (o : Option Idle). line_at o r) none in
     record {
-      place = entered_place limits s b r conn tenancy w fresh spare idle after charts room none place all_else (opened may) (_, (one place.alive.0 place.alive.1).lives);
+      place = entered_place limits s b r conn tenancy w fresh spare idle after charts room none (ap (λ (q : SlotParts). q.first) empty) place all_else (opened may) (_, (one place.alive.0 place.alive.1).lives);
       takes = one;
       uncalled = uncalled may;
       less = omega (arith, less may, ap work_of sits, ap work_of now);
       at = ap (λ (l : LineParts). l.moment) now ∙ moment ∙ ap (λ (l : LineParts). l.moment) sits;
       who = ap (λ (o : Option Idle). who_at o r) none ∙ entered_who limits s b r conn tenancy w fresh all_else;
       tenants = entered_tenants limits s b r conn tenancy w fresh spare all_else;
+      visits = entered_visits limits s b r conn tenancy w fresh all_else nobody;
+      nobody = nobody;
     }

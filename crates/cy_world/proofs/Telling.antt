@@ -16,10 +16,10 @@ use Rattle.cy_world.proofs.Stepping.{all_of, found, some}
 pub seated_tells : (w : List Step) (p : WorldParts) (c i : ℕ) (seat : SeatParts) (t : Tally) → StandsFor w p → find_in c p.book ≡ Some (Seated i) → seat ≡ slice_index_or p.seats i seat
     → TalliesEach (seat_parts seat) t → Some t ≡ told_of tally_of p w c
 seated_tells w p c i seat t stands booked value tallies =
-    let f = found p.settings p.seats c i (find_own c (all_of p w)) (find_in c p.book) booked (stands.each c) in
-    let T : Trace = trace_of p.settings.limits p.settings.rules f.entries in
+    let f = found p.terms p.seats c i (find_own c (all_of p w)) (find_in c p.book) booked (stands.each c) in
+    let T : Trace = trace_of p.terms.limits p.terms.rules f.entries in
     let there = item_is p.seats i seat (place_below w p c i stands booked) value in
     let same : f.seated.seat ≡ seat = some f.seated.seat seat (sym f.seated.there ∙ there) in
-    let keeps = subst (λ (k : SeatParts). Keeps p.settings T (seat_parts k)) same f.seated.keeps in
-    ap Some (tallies p.settings T keeps)
-    ∙ sym (ap (option_map (λ (es : List (ℕ × Entry)). tally_of (trace_of p.settings.limits p.settings.rules es))) f.is)
+    let keeps = subst (λ (k : SeatParts). Keeps p.terms T (seat_parts k)) same f.seated.keeps in
+    ap Some (tallies p.terms T keeps)
+    ∙ sym (ap (option_map (λ (es : List (ℕ × Entry)). tally_of (trace_of p.terms.limits p.terms.rules es))) f.is)

@@ -2,21 +2,19 @@
 use Rattle.std.specs.Prelude.{◌≡◌, ℕ, Bool, true, false, List, [], ◌∷◌, length, map, None}
 use Rattle.cy_event.specs.declared.limits.Limits.{Limits}
 use Rattle.cy_event.specs.declared.steps.Reply.{Reply}
-use Rattle.cy_event.specs.declared.steps.Reply.TheVariants as reply
 use Rattle.cy_event.specs.declared.steps.Step.{Step}
 use Rattle.cy_event.specs.declared.steps.Step.TheVariants as step
 use Rattle.cy_event.specs.Charts.{chart_of}
-use Rattle.cy_model.specs.Connections.{Kind, admission, clock, own}
-use Rattle.cy_model.specs.Entries.{Entry, after, reply_to}
+use Rattle.cy_model.specs.Entries.{Entry, after, on_act, on_event, on_run, reply_to}
 use Rattle.cy_model.specs.Folds.{cause_of, charts}
 use Rattle.cy_model.specs.Marks.{Trace, opened}
 use Rattle.cy_model.specs.Outputs.{is_gone, output, took}
 use Rattle.cy_model.specs.Replies.{Replied, plain}
 use Rattle.cy_model.specs.Steps.{IsWithinBytes}
 use Rattle.cy_proc.specs.Processors.{is_over_at}
-use Rattle.cy_world.specs.Places.{IsSameButRoom, LiveParts, Lives, PlaceParts}
+use Rattle.cy_world.specs.Places.{IsInItsSlot, IsSameButRoom, LiveParts, Lives, PlaceParts}
 use Rattle.cy_world.specs.declared.seat.Account.{Account}
-use Rattle.cy_world.specs.declared.settings.Settings.{Settings}
+use Rattle.cy_world.specs.declared.terms.Terms.{Terms}
 
 -- a place, and all that was written on its connection
 pub record SeatParts : Type 0 where
@@ -39,7 +37,7 @@ abbrev pub start : ℕ
 start = 0
 
 -- between two entries the parts stand for the trace
-pub record Keeps (s : Settings) (T : Trace) (p : Parts) : Type 0 where
+pub record Keeps (s : Terms) (T : Trace) (p : Parts) : Type 0 where
   pub lives : Lives T p.live
   pub limits : p.live.limits ≡ s.limits
   pub moment : p.live.line.moment ≡ start
@@ -53,6 +51,7 @@ pub record IsVacant (of_limits : Limits) (p : SeatParts) : Type 0 where
   pub limits : p.place.live.limits ≡ of_limits
   pub moment : p.place.live.line.moment ≡ start
   pub kept : is_over_at p.place.live.processor.stage ≡ false
+  pub slot : IsInItsSlot p.place
   pub written : p.written ≡ []
 
 -- nothing but room changes
@@ -70,6 +69,20 @@ IsOwn (step.On c e b) = Unit {0}
 IsOwn (step.Run c) = Unit {0}
 IsOwn (step.Act c a b) = IsWithinBytes a b
 
+-- the entry that a step of a connection is
+abbrev pub entry_by : Step → Entry
+entry_by (step.On c e b) = on_event e b
+entry_by (step.Act c a b) = on_act a b
+entry_by s = on_run
+
+abbrev pub is_turn : Step → Bool
+is_turn (step.Run c) = true
+is_turn s = false
+
+abbrev pub is_act : Step → Bool
+is_act (step.Act c a b) = true
+is_act s = false
+
 -- for how many further charts a step may need room: for one of each byte that comes, and for that of a request that an
 -- act ends
 abbrev pub charts_asked : Step → ℕ
@@ -78,25 +91,14 @@ charts_asked (step.Act c a b) = 1
 charts_asked s = 0
 
 -- the reply is the definition's, and the parts stand for the trace after the entry
-pub record Answers (s : Settings) (T : Trace) (e : Entry) (r : Replied) (p : Parts) : Type 0 where
+pub record Answers (s : Terms) (T : Trace) (e : Entry) (r : Replied) (p : Parts) : Type 0 where
   pub reply : r ≡ reply_to s.limits s.rules start T e
   pub keeps : Keeps s (after s.limits s.rules start T e) p
 
 -- for each trace that the parts stood for, of a connection that isn't gone; no bytes stand beside the reply, since none
 -- are read yet
-abbrev pub AnswersEach : Settings → Entry → Parts → Reply → Parts → Type 0
+abbrev pub AnswersEach : Terms → Entry → Parts → Reply → Parts → Type 0
 AnswersEach s e old r new = (T : Trace) → Keeps s T old → is_gone T ≡ false → Answers s T e (plain r) new
-
--- the same for a step by its kind
-abbrev pub AnswersKind : Settings → Kind → Parts → Reply → Parts → Type 0
-AnswersKind s (clock t) old r new = Unit {0}
-AnswersKind s (admission c) old r new = Unit {0}
-AnswersKind s (own c e) old r new = AnswersEach s e old r new
-
--- an event found the connection closed
-abbrev pub is_closed_reply : Reply → Bool
-is_closed_reply reply.Closed = true
-is_closed_reply r = false
 
 -- what is told of a connection is what its trace says
 pub record Tells (T : Trace) (a : Account) : Type 0 where
@@ -105,6 +107,6 @@ pub record Tells (T : Trace) (a : Account) : Type 0 where
   pub written : a.written ≡ output T
   pub charts : a.charts.items ≡ map chart_of (charts T)
 
--- for each trace that the parts stood for, whatever the settings
+-- for each trace that the parts stood for, whatever the terms
 abbrev pub TellsEach : Parts → Account → Type 0
-TellsEach p a = (s : Settings) (T : Trace) → Keeps s T p → Tells T a
+TellsEach p a = (s : Terms) (T : Trace) → Keeps s T p → Tells T a

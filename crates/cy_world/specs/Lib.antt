@@ -1,6 +1,7 @@
 pub mod Places
 pub mod Lives
 pub mod Answered
+pub mod Counts
 pub mod Worlds
 pub mod Told
 pub mod Faults

@@ -1,11 +1,11 @@
 -- What it means that a connection goes on rightly, for each trace that it stood for.
-use Rattle.std.specs.Prelude.{◌≡◌, ◌≤◌, ℕ, false, List, Some}
+use Rattle.std.specs.Prelude.{◌≡◌, ◌≤◌, ℕ, Bool, true, false, List, length, Some}
 use Rattle.cy_event.specs.declared.limits.Limits.{Limits}
-use Rattle.cy_event.specs.declared.steps.Act.{Act}
 use Rattle.cy_event.specs.declared.steps.Event.{Event}
 use Rattle.cy_event.specs.declared.steps.Reply.{Reply}
+use Rattle.cy_event.specs.declared.steps.Reply.TheVariants as reply
 use Rattle.cy_map.specs.declared.rule.Rule.{Rule}
-use Rattle.cy_model.specs.Entries.{after_callback, after_turn, callback_reply, reply_to_event, rested_event, turn_reply}
+use Rattle.cy_model.specs.Entries.{Entry, after_turn, callback_reply, on_act, on_event, reply_to_event, rested_callback, rested_event, turn_reply}
 use Rattle.cy_model.specs.Marks.{Trace}
 use Rattle.cy_model.specs.Replies.{Replied, plain}
 use Rattle.cy_model.specs.Settling.{rested, settled, taken_up}
@@ -39,18 +39,42 @@ LivesAfterEvent e b old r new =
     (T : Trace) → Lives T old
     → AnswersLive (plain (reply_to_event T e b)) (rested_event old.limits old.line.moment T e b) (plain r) new
 
--- a worker's turn at a moment
-abbrev pub AnswersTurn : LiveParts → List Rule → Trace → Trace → Reply → LiveParts → Type 0
-AnswersTurn old rules T S r new = AnswersLive (turn_reply T S) (after_turn old.line.moment T S) (plain r) new
+-- what an entry is answered at once; a turn of a worker does nothing at once
+abbrev pub told_reply : Limits → Trace → Entry → Replied
+told_reply limits T (on_event e b) = plain (reply_to_event T e b)
+told_reply limits T (on_act a b) = callback_reply limits T a
+told_reply limits T e = plain reply.Idle
 
-abbrev pub LivesAfterTurn : List Rule → LiveParts → Reply → LiveParts → Type 0
-LivesAfterTurn rules old r new =
-    (T : Trace) → Lives T old → is_over_at old.processor.stage ≡ false → AnswersTurn old rules T (settled old.limits rules old.line.moment T) r new
+-- and what it leaves, before a head is taken up
+abbrev pub told_trace : Limits → ℕ → Trace → Entry → Trace
+told_trace limits t T (on_event e b) = rested_event limits t T e b
+told_trace limits t T (on_act a b) = rested_callback limits t T a b
+told_trace limits t T e = T
 
-abbrev pub LivesAfterAct : List Rule → Act → List ℕ → LiveParts → Reply → LiveParts → Type 0
-LivesAfterAct rules a b old r new =
+abbrev pub LivesAfterTelling : Entry → LiveParts → Reply → LiveParts → Type 0
+LivesAfterTelling e old r new =
+    (T : Trace) → Lives T old → AnswersLive (told_reply old.limits T e) (told_trace old.limits old.line.moment T e) (plain r) new
+
+-- how many bytes of what waits were written before what follows
+abbrev pub first_of : Entry → LiveParts → LiveParts → ℕ
+first_of (on_event e b) old new = length new.line.unsent
+first_of e old new = length old.line.unsent
+
+-- what follows is answered as before, but that a worker is told which callback begins
+abbrev pub followed_reply : Bool → Reply → Trace → Trace → Replied
+followed_reply true told T S = turn_reply T S
+followed_reply false told T S = plain told
+
+abbrev pub followed_trace : Bool → ℕ → Trace → Trace → Trace
+followed_trace true t T S = after_turn t T S
+followed_trace false t T S = S
+
+-- by whether it follows a turn of a worker
+abbrev pub LivesAfterFollowing : List Rule → Bool → Reply → LiveParts → Reply → LiveParts → Type 0
+LivesAfterFollowing rules turn told old r new =
     (T : Trace) → Lives T old
-    → AnswersLive (callback_reply old.limits T a) (after_callback old.limits rules old.line.moment T a b) (plain r) new
+    → let S = settled old.limits rules old.line.moment T in
+    AnswersLive (followed_reply turn told T S) (followed_trace turn old.line.moment T S) (plain r) new
 
 -- one head was taken up or refused
 abbrev pub SettlesOne : List Rule → LiveParts → LiveParts → Type 0

@@ -19,4 +19,4 @@ text_of p w c = unwrap_or (told_of (trace_text c) p w c) []
 -- the lines of all connections, by rising number
 abbrev pub connections_text : WorldParts → List Step → List ℕ
 connections_text p w =
-    flat_map (history_text p.settings.limits p.settings.rules) (by_number (connections p.settings.limits p.settings.rules w))
+    flat_map (history_text p.terms.limits p.terms.rules) (by_number (connections p.terms.limits p.terms.rules w))

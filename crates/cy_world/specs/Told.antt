@@ -13,7 +13,7 @@ use Rattle.cy_slot.specs.Slots.{SlotParts}
 use Rattle.cy_world.specs.Answered.{Keeps, Parts, SeatParts}
 use Rattle.cy_world.specs.Worlds.{WorldParts}
 use Rattle.cy_world.specs.declared.seat.Tally.{Tally}
-use Rattle.cy_world.specs.declared.settings.Settings.{Settings}
+use Rattle.cy_world.specs.declared.terms.Terms.{Terms}
 use Rattle.cy_world.specs.declared.world.Replied.{Replied}
 
 -- a reply with the bytes beside it
@@ -22,7 +22,7 @@ replied r = record { reply = r.reply; got = r.got }
 
 -- what the definitions tell of the connection of this number, if it was admitted
 abbrev pub told_of : {X : Type 0} → (Trace → X) → WorldParts → List Step → ℕ → Option X
-told_of f p w c = option_map (λ entries. f (trace_of p.settings.limits p.settings.rules entries)) (own_entries p.settings.limits p.settings.rules w c)
+told_of f p w c = option_map (λ entries. f (trace_of p.terms.limits p.terms.rules entries)) (own_entries p.terms.limits p.terms.rules w c)
 
 -- how many requests were taken up
 abbrev pub request_count : Trace → ℕ
@@ -32,9 +32,9 @@ request_count T = length (charts T)
 abbrev pub tally_of : Trace → Tally
 tally_of T = record { cause = cause_of T; took = took T; requests = request_count T; ended = ended_count T }
 
--- for each trace that the parts stand for, whatever the settings
+-- for each trace that the parts stand for, whatever the terms
 abbrev pub TalliesEach : Parts → Tally → Type 0
-TalliesEach p t = (s : Settings) (T : Trace) → Keeps s T p → t ≡ tally_of T
+TalliesEach p t = (s : Terms) (T : Trace) → Keeps s T p → t ≡ tally_of T
 
 -- ---- slots
 

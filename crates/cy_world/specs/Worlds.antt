@@ -14,15 +14,16 @@ use Rattle.cy_model.specs.Replies.{Replied}
 use Rattle.cy_model.specs.Steps.{IsWithinBytes}
 use Rattle.cy_proc.specs.Processors.{is_over_at}
 use Rattle.cy_slot.specs.Reaching.{Who}
-use Rattle.cy_world.specs.Answered.{IsVacant, Keeps, SeatParts, Tells, TellsEach, seat_parts, start}
-use Rattle.cy_world.specs.Places.{Lives}
+use Rattle.cy_world.specs.Answered.{IsSameButRooms, IsVacant, Keeps, SeatParts, Tells, TellsEach, seat_parts, start}
+use Rattle.cy_world.specs.Counts.{AddUp}
+use Rattle.cy_world.specs.Places.{IsInItsSlot, Lives, visits_of}
 use Rattle.cy_world.specs.declared.seat.Account.{Account}
-use Rattle.cy_world.specs.declared.settings.Settings.{Settings}
+use Rattle.cy_world.specs.declared.terms.Terms.{Terms}
 use Rattle.cy_world.specs.declared.world.Admitted.{Admitted}
 use Rattle.cy_world.specs.declared.world.Admitted.TheVariants.{Seated, Gone}
 
 pub record WorldParts : Type 0 where
-  pub settings : Settings
+  pub terms : Terms
   -- which shares are out, and the place of each
   pub latch : List Bool
   pub seats : List SeatParts
@@ -35,7 +36,7 @@ find_in c book = lookup (is_at (nat_cmp c)) book
 -- ---- one connection
 
 -- a place is held for the connection, and keeps what happened to it
-pub record IsSeatedFor (s : Settings) (seats : List SeatParts) (c : ℕ) (T : Trace) (i : ℕ) : Type 0 where
+pub record IsSeatedFor (s : Terms) (seats : List SeatParts) (c : ℕ) (T : Trace) (i : ℕ) : Type 0 where
   pub seat : SeatParts
   pub there : slice_get seats i ≡ Some seat
   pub who : seat.place.who ≡ Some (record { share = i; number = c })
@@ -46,12 +47,12 @@ pub record IsGoneAs (T : Trace) (a : Account) : Type 0 where
   pub gone : is_gone T ≡ true
   pub tells : Tells T a
 
-abbrev pub StandsForAdmitted : Settings → List SeatParts → ℕ → Trace → Admitted → Type 0
+abbrev pub StandsForAdmitted : Terms → List SeatParts → ℕ → Trace → Admitted → Type 0
 StandsForAdmitted s seats c T (Seated i) = IsSeatedFor s seats c T i × (is_gone T ≡ false)
 StandsForAdmitted s seats c T (Gone a) = IsGoneAs T a
 
 -- what the book says of a number, whatever it is
-abbrev pub StandsForOne : Settings → List SeatParts → ℕ → Option (List (ℕ × Entry)) → Option Admitted → Type 0
+abbrev pub StandsForOne : Terms → List SeatParts → ℕ → Option (List (ℕ × Entry)) → Option Admitted → Type 0
 StandsForOne s seats c None None = Unit {0}
 StandsForOne s seats c None (Some a) = ⊥
 StandsForOne s seats c (Some entries) None = ⊥
@@ -60,16 +61,17 @@ StandsForOne s seats c (Some entries) (Some a) = StandsForAdmitted s seats c (tr
 -- ---- the places
 
 -- a place is held exactly while the share of its number is out
-pub record IsPlaceOf (s : Settings) (i : ℕ) (out : Bool) (seat : SeatParts) : Type 0 where
+pub record IsPlaceOf (s : Terms) (i : ℕ) (out : Bool) (seat : SeatParts) : Type 0 where
   pub held : is_some seat.place.who ≡ out
   pub share : (w : Who) → seat.place.who ≡ Some w → w.share ≡ i
   pub kept : is_over_at seat.place.live.processor.stage ≡ false
+  pub slot : IsInItsSlot seat.place
   pub vacant : out ≡ false → IsVacant s.limits seat
 
 pub record ArePlaces (p : WorldParts) : Type 0 where
-  pub each : (i : ℕ) (seat : SeatParts) → slice_get p.seats i ≡ Some seat → IsPlaceOf p.settings i (is_out p.latch i) seat
-  pub seats : length p.seats ≡ p.settings.limits.max_connections
-  pub latch : length p.latch ≡ p.settings.limits.max_connections
+  pub each : (i : ℕ) (seat : SeatParts) → slice_get p.seats i ≡ Some seat → IsPlaceOf p.terms i (is_out p.latch i) seat
+  pub seats : length p.seats ≡ p.terms.limits.max_connections
+  pub latch : length p.latch ≡ p.terms.limits.max_connections
 
 -- ---- the connector
 
@@ -81,10 +83,11 @@ AreDistinct (h ∷ hs) = (find_own h.number hs ≡ None) × AreDistinct hs
 -- the connector stands for the steps, the newest first
 pub record StandsFor (w : List Step) (p : WorldParts) : Type 0 where
   pub moment : moment w ≡ start
-  pub distinct : AreDistinct (connections p.settings.limits p.settings.rules w)
-  pub each : (c : ℕ) → StandsForOne p.settings p.seats c (find_own c (connections p.settings.limits p.settings.rules w)) (find_in c p.book)
-  pub counted : count_out p.latch ≡ counted p.settings.limits p.settings.rules (connections p.settings.limits p.settings.rules w)
+  pub distinct : AreDistinct (connections p.terms.limits p.terms.rules w)
+  pub each : (c : ℕ) → StandsForOne p.terms p.seats c (find_own c (connections p.terms.limits p.terms.rules w)) (find_in c p.book)
+  pub counted : count_out p.latch ≡ counted p.terms.limits p.terms.rules (connections p.terms.limits p.terms.rules w)
   pub places : ArePlaces p
+  pub tenancies : AddUp p.terms p.seats (connections p.terms.limits p.terms.rules w)
 
 abbrev pub IsWorld : WorldParts → Type 0
 IsWorld p = (w : List Step) × StandsFor w p
@@ -108,8 +111,16 @@ IsOwnOf c (step.Act d a b) = d ≡ c
 
 -- the step is answered by the definition, and the connector stands for the steps with it
 pub record TakesStep (w : List Step) (s : Step) (old : WorldParts) (r : Replied) (new : WorldParts) : Type 0 where
-  pub reply : r ≡ reply_by old.settings.limits old.settings.rules (kind_of s) (moment (s ∷ w)) (connections old.settings.limits old.settings.rules w)
+  pub reply : r ≡ reply_by old.terms.limits old.terms.rules (kind_of s) (moment (s ∷ w)) (connections old.terms.limits old.terms.rules w)
   pub stands : StandsFor (s ∷ w) new
+
+-- nothing changes but that places have more room
+pub record IsAsBefore (old new : WorldParts) : Type 0 where
+  pub terms : new.terms ≡ old.terms
+  pub latch : new.latch ≡ old.latch
+  pub book : new.book ≡ old.book
+  pub count : length new.seats ≡ length old.seats
+  pub seats : (i : ℕ) (before after : SeatParts) → slice_get old.seats i ≡ Some before → slice_get new.seats i ≡ Some after → IsSameButRooms before after
 
 -- ---- a connection that is gone
 
@@ -122,6 +133,7 @@ pub record Leaves (c : ℕ) (old : SeatParts) (latch : List Bool) (book : List (
   pub account : Account
   pub tells : TellsEach (seat_parts old) account
   pub vacant : IsVacant old.place.live.limits new
+  pub visits : visits_of new.place.slot ≡ visits_of old.place.slot
   pub left : (w : Who) → old.place.who ≡ Some w → latch_after ≡ after_leave latch w.share
   pub put_down : PutsDown c (Gone account) book book_after
 

@@ -1,5 +1,6 @@
 //! Why no connector was made.
 
+use cy_bytes::NoMemory;
 use cy_map::MapFault;
 
 /// Why there is no connector, or no report.
@@ -26,5 +27,16 @@ impl WorldFault {
             MapFault::RuleTwice { i, j } => WorldFault::RuleTwice { i, j },
             MapFault::NoMemory => WorldFault::NoMemory,
         }
+    }
+}
+
+impl From<NoMemory> for WorldFault {
+    ghost use Rattle.std.specs.Prelude.{◌≡◌};
+    ghost use Rattle.cy_world.specs.declared.fault.WorldFault.TheVariants.{NoMemory};
+
+    ghost from_gives = { λ _ fault. fault ≡ NoMemory };
+
+    fn from(_: NoMemory) -> WorldFault {
+        WorldFault::NoMemory
     }
 }

@@ -5,7 +5,7 @@ mod fault;
 pub mod laws;
 mod place;
 mod seat;
-mod settings;
+mod terms;
 mod world;
 
 pub use fault::WorldFault;

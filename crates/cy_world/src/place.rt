@@ -6,22 +6,24 @@ ghost use Rattle.cy_event.specs.declared.head.TheConstants.{HEAD_ROOM, FIELD_ROO
 ghost use Rattle.cy_event.specs.declared.limits.TheConstants.{GREATEST_MOMENT};
 ghost use Rattle.cy_model.specs.Outputs.{is_gone};
 ghost use Rattle.cy_model.specs.Marks.{Trace, opened};
-ghost use Rattle.cy_model.specs.Replies.{is_refusal};
 ghost use Rattle.cy_model.specs.Steps.{IsWithinBytes};
 ghost use Rattle.cy_proc.specs.LineChanges.{is_due, work_of};
 ghost use Rattle.cy_proc.specs.Processors.{fresh_processor, is_open_at, is_over_at};
 ghost use Rattle.cy_rings.specs.declared.kit.TheConstants.{IN_CAPACITY, OUT_CAPACITY};
-ghost use Rattle.cy_world.specs.Lives.{KeepsEach, LeavesNoMoreWork, LivesAfterAct, LivesAfterEvent, LivesAfterTurn, RestsEach, SettlesEach, SettlesOne};
+ghost use Rattle.cy_event.specs.declared.steps.Reply.TheVariants as reply;
+ghost use Rattle.cy_model.specs.Entries.{on_act};
+ghost use Rattle.cy_world.specs.Answered.{IsOwn, charts_asked, entry_by, is_act, is_turn};
+ghost use Rattle.cy_world.specs.Lives.{KeepsEach, LeavesNoMoreWork, LivesAfterEvent, LivesAfterFollowing, LivesAfterTelling, RestsEach, SettlesEach, SettlesOne, first_of};
 ghost use Rattle.cy_slot.specs.Reaching.{Who, who_is};
 ghost use Rattle.cy_slot.specs.declared.slot.TheConstants.{GREATEST_TENANCY};
-ghost use Rattle.cy_world.specs.Places.{HasRoom, IsSameButRoom, Lives, stands_due};
+ghost use Rattle.cy_world.specs.Places.{CountsHeads, HasRoom, IsInItsSlot, IsSameButRoom, Lives, stands_due, visits_of};
 
-use cy_event::{Act, ChartItem, CloseCause, Event, Limits, NoMemory, Reply};
+use cy_event::{Act, ChartItem, CloseCause, Event, Limits, NoMemory, Reply, Step};
 use cy_latch::Share;
 use cy_map::Mapper;
 use cy_proc::{Line, Standing};
 use cy_rings::IN_CAPACITY;
-use cy_slot::{Bound, Conn, Slot};
+use cy_slot::{Bound, Conn, GREATEST_TENANCY, Slot};
 use cy_tape::ChartItems;
 use std::alloc::Global;
 use std::marker::Model;
@@ -67,8 +69,8 @@ impl Model for Place {
 /// The first moment. Entries that come at it come at the last moment of their line.
 pub const START: u64 = 0;
 
-/// A slot that has had more tenants than this is left for a new one: so none is ever used up, whatever is still
-/// taken up in one step.
+/// For a slot that has had more tenants than this a new one is got, so that none is wanting when it is used up: fewer are
+/// still taken up in one step.
 const WORN: u64 = u64::MAX - (1 << 16);
 
 impl Place {
@@ -85,6 +87,8 @@ impl Place {
         ensures moment { IfOk result (λ place. place.live.line.moment ≡ START) }
         ensures kept { IfOk result (λ place. is_over_at place.live.processor.stage ≡ false) }
         ensures nobody { IfOk result (λ place. place.who ≡ None) }
+        ensures slot { IfOk result IsInItsSlot }
+        ensures unvisited { IfOk result (λ place. visits_of place.slot ≡ 0) }
         ensures charts { IfOk result (λ place. place.live.charts ≡ []) }
     {
         let Ok(line) = Line::new(alloc) else {
@@ -196,8 +200,26 @@ impl Place {
     {
         self.get_spare()?;
         let waiting = IN_CAPACITY - self.in_room();
-        let coming = bytes.min(IN_CAPACITY + 2);
+        let coming = bytes.min(IN_CAPACITY);
         self.get_chart_room(waiting + coming + 3)
+    }
+
+    /// Room for the chart of a request that the step may end, where it is an act.
+    ///
+    /// # Errors
+    ///
+    /// Where memory ran out.
+    pub fn chart_items(&self, step: &Step) -> Result<Vec<ChartItem>, NoMemory>
+        ensures empty { IfOk result (λ items. items.items ≡ []) }
+        ensures room { IfOk result (λ items. is_act step.now ≡ true → length self.now.slot.processor.progress.chart + 1 ≤ vec_capacity items) }
+    {
+        if !is_act(step) {
+            return Ok(Vec::new(self.alloc));
+        }
+        let Some(room) = self.slot.chart_len().checked_add(1) else {
+            return Err(NoMemory);
+        };
+        Ok(Vec::with_capacity(self.alloc, room)?)
     }
 
     /// Gets a new slot where this one is nearly used up.
@@ -221,89 +243,106 @@ impl Place {
         Ok(())
     }
 
-    /// Takes what the socket tells. No head is taken up yet.
-    pub fn event(&mut self, event: Event, bytes: &[u8]) -> Reply
+    /// What an entry does at once: the socket tells something, or the callback that runs acts. No head is taken up yet.
+    /// A turn of a worker does nothing yet. Beside the reply stands how many bytes wait for the socket, of which what
+    /// follows is no part.
+    pub fn tell(&mut self, step: &Step, items: Vec<ChartItem>) -> (usize, Reply)
+        requires own { IsOwn step.now }
         requires kept { is_over_at self.old.live.processor.stage ≡ false }
-        ensures answers { LivesAfterEvent event bytes.now self.old.live result self.new.live }
+        requires room { HasRoom (charts_asked step.now) self.old }
+        requires empty { items.items ≡ [] }
+        requires slot { IsInItsSlot self.old }
+        requires items_room { is_act step.now ≡ true → length self.old.slot.processor.progress.chart + 1 ≤ vec_capacity items }
+        ensures first { result.0 ≡ first_of (entry_by step.now) self.old.live self.new.live }
+        ensures tells { LivesAfterTelling (entry_by step.now) self.old.live result.1 self.new.live }
+        ensures turn { is_turn step.now ≡ true → result.1 ≡ reply.Idle }
         ensures keeps { KeepsEach self.old.live self.new.live }
+        ensures counts { CountsHeads self.old self.new }
+        ensures slot { IsInItsSlot self.new }
         ensures who { self.new.who ≡ self.old.who }
-        ensures room { HasRoom (length bytes.now) self.old → HasRoom 0 self.new }
+        ensures room { HasRoom 0 self.new }
     {
-        let reply = self.tell(event, bytes);
-
-        // Of the bytes no more came than there was room for.
-        let _room = self.in_room();
-        reply
+        match step {
+            Step::On { event, bytes, .. } => self.event(*event, bytes.as_slice()),
+            Step::Act { act, bytes, .. } => {
+                let first = self.unsent_len();
+                (first, self.act(act, bytes.as_slice(), items))
+            }
+            Step::Run(_) => (self.unsent_len(), Reply::Idle),
+            Step::At(_) | Step::Admit(_) => unreachable!(),
+        }
     }
 
-    /// Hands on what the socket tells.
-    fn tell(&mut self, event: Event, bytes: &[u8]) -> Reply
+    /// The socket tells something, and so many bytes wait for it then. The ring of the input takes no more bytes at once
+    /// than it holds.
+    fn event(&mut self, event: Event, bytes: &[u8]) -> (usize, Reply)
         requires kept { is_over_at self.old.live.processor.stage ≡ false }
-        ensures answers { LivesAfterEvent event bytes.now self.old.live result self.new.live }
+        requires room { HasRoom (length bytes.now) self.old }
+        ensures first { result.0 ≡ length self.new.live.line.unsent }
+        ensures answers { LivesAfterEvent event bytes.now self.old.live result.1 self.new.live }
         ensures keeps { KeepsEach self.old.live self.new.live }
+        ensures counts { CountsHeads self.old self.new }
+        ensures slot { IsInItsSlot self.new }
         ensures who { self.new.who ≡ self.old.who }
-        ensures work { work_of self.new.live.line ≤ work_of self.old.live.line + length bytes.now }
-        ensures charts { self.new.live.charts ≡ self.old.live.charts }
-        ensures room { self.new.chart_room ≡ self.old.chart_room }
-        ensures tenants { self.new.tenants_left ≡ self.old.tenants_left }
+        ensures room { HasRoom 0 self.new }
     {
+        let bytes = &bytes[..IN_CAPACITY.min(bytes.len())];
         let Some(mut idle) = self.idle.take() else {
             let tenancy = self.slot.tenancy();
-            return self.slot.event(tenancy, START, event, bytes);
+            let reply = self.slot.event(tenancy, START, event, bytes);
+            return (self.slot.waiting_len(tenancy), reply);
         };
         let reply = idle.line.event(START, event, bytes, &self.limits);
+        let first = idle.line.unsent_len();
         self.idle = Some(idle);
-        reply
+        (first, reply)
     }
 
-    /// A worker turns to it: what is due is settled, and then the callback that is owed begins, unless a request has
-    /// ended by settling.
-    pub fn run(&mut self, rules: &Mapper) -> Reply
-        requires kept { is_over_at self.old.live.processor.stage ≡ false }
-        requires room { HasRoom 0 self.old }
-        requires guest { is_some self.old.who ≡ true }
-        ensures answers { LivesAfterTurn rules.now self.old.live result self.new.live }
-        ensures keeps { KeepsEach self.old.live self.new.live }
-        ensures who { self.new.who ≡ self.old.who }
-    {
-        let ended = self.charts.len();
-        self.settle(rules);
-        if self.charts.len() != ended || self.idle.is_some() {
-            return Reply::Idle;
-        }
-        self.slot.run(self.slot.tenancy(), START)
-    }
-
-    /// The callback that runs acts, and what follows is settled. A refused act is followed by nothing.
-    ///
-    /// # Errors
-    ///
-    /// Where memory ran out. Then nothing has changed.
-    pub fn act(&mut self, act: &Act, bytes: &[u8], rules: &Mapper) -> Result<Reply, NoMemory>
+    /// The callback that runs acts. Where its request ends it leaves the slot, and its chart goes into these items.
+    fn act(&mut self, act: &Act, bytes: &[u8], items: Vec<ChartItem>) -> Reply
         requires kept { is_over_at self.old.live.processor.stage ≡ false }
         requires room { HasRoom 1 self.old }
-        requires guest { is_some self.old.who ≡ true }
         requires within { IsWithinBytes act.now bytes.now }
-        ensures answers { IfOk result (λ r. LivesAfterAct rules.now act.now bytes.now self.old.live r self.new.live) }
-        ensures keeps { OnOk result (KeepsEach self.old.live self.new.live) }
+        requires empty { items.items ≡ [] }
+        requires items_room { length self.old.slot.processor.progress.chart + 1 ≤ vec_capacity items }
+        ensures answers { LivesAfterTelling (on_act act.now bytes.now) self.old.live result self.new.live }
+        ensures keeps { KeepsEach self.old.live self.new.live }
+        ensures counts { CountsHeads self.old self.new }
+        ensures slot { IsInItsSlot self.new }
         ensures who { self.new.who ≡ self.old.who }
-        ensures unchanged { OnErr result (self.new ≡ self.old) }
+        ensures room { HasRoom 0 self.new }
     {
         if self.idle.is_some() {
-            return Ok(Reply::NotActive);
+            return Reply::NotActive;
         }
-        let items = Vec::with_capacity(self.alloc, self.slot.chart_len() + 1)?;
         let tenancy = self.slot.tenancy();
         let reply = self.slot.act(tenancy, START, act, bytes, &mut []);
-        if is_refusal(reply) {
-            return Ok(reply);
-        }
         if self.slot.is_over() {
             let chart = chart_of(&self.slot, items);
             self.finish(chart);
         }
+        reply
+    }
+
+    /// What follows a step that was answered so: the moves of the container, and behind a turn of a worker the callback
+    /// that is owed begins, unless a request has ended by these moves.
+    pub fn follow(&mut self, step: &Step, told: Reply, rules: &Mapper) -> Reply
+        requires kept { is_over_at self.old.live.processor.stage ≡ false }
+        requires room { HasRoom 0 self.old }
+        requires guest { is_some self.old.who ≡ true }
+        requires turn { is_turn step.now ≡ true → told ≡ reply.Idle }
+        ensures follows { LivesAfterFollowing rules.now (is_turn step.now) told self.old.live result self.new.live }
+        ensures keeps { KeepsEach self.old.live self.new.live }
+        ensures counts { CountsHeads self.old self.new }
+        ensures slot { IsInItsSlot self.new }
+        ensures who { self.new.who ≡ self.old.who }
+    {
+        let ended = self.charts.len();
         self.settle(rules);
-        Ok(reply)
+        if !is_turn(step) || self.charts.len() != ended || self.idle.is_some() {
+            return told;
+        }
+        self.slot.run(self.slot.tenancy(), START)
     }
 
     /// Makes the moves of the container: while a head is due it is taken up or refused.
@@ -313,6 +352,8 @@ impl Place {
         requires guest { is_some self.old.who ≡ true }
         ensures settles { SettlesEach rules.now self.old.live self.new.live }
         ensures keeps { KeepsEach self.old.live self.new.live }
+        ensures counts { CountsHeads self.old self.new }
+        ensures slot { IsInItsSlot self.new }
         ensures who { self.new.who ≡ self.old.who }
     {
         while self.is_due() {
@@ -326,6 +367,8 @@ impl Place {
         ensures rests { RestsEach self.old.live self.new.live }
         ensures due { result ≡ (not (is_open_at self.new.live.processor.stage) && is_due self.old.live.limits self.new.live.line) }
         ensures line { LeavesNoMoreWork self.old.live self.new.live }
+        ensures counts { CountsHeads self.old self.new }
+        ensures slot { IsInItsSlot self.new }
         ensures processor { self.new.live.processor ≡ self.old.live.processor }
         ensures charts { self.new.live.charts ≡ self.old.live.charts }
         ensures limits { self.new.live.limits ≡ self.old.live.limits }
@@ -351,6 +394,7 @@ impl Place {
         requires room { HasRoom 0 self.old }
         ensures takes { SettlesOne rules.now self.old.live self.new.live }
         ensures keeps { KeepsEach self.old.live self.new.live }
+        ensures counts { CountsHeads self.old self.new }
         ensures who { self.new.who ≡ self.old.who }
         ensures room { HasRoom 0 self.new }
         ensures less { work_of self.new.live.line < work_of self.old.live.line }
@@ -376,19 +420,25 @@ impl Place {
         }
     }
 
-    /// A slot that is nearly used up is left for the new one.
+    /// A slot that is used up is left for the new one.
     fn renew_slot(&mut self)
         requires closed { is_open_at self.old.live.processor.stage ≡ false }
         requires kept { is_over_at self.old.live.processor.stage ≡ false }
+        requires left { 1 ≤ self.old.tenants_left }
         ensures live { self.new.live ≡ self.old.live }
         ensures who { self.new.who ≡ self.old.who }
         ensures room { self.new.chart_room ≡ self.old.chart_room }
         ensures tenants { self.new.tenants_left ≡ self.old.tenants_left }
-        ensures spent { self.new.tenants_left ≡ GREATEST_TENANCY - self.new.slot.tenancy }
+        ensures free { self.new.slot.tenancy < GREATEST_TENANCY }
+        ensures slot { self.old.slot.tenancy < GREATEST_TENANCY → self.new.slot ≡ self.old.slot }
     {
-        if let Some(slot) = self.spare.take() {
-            self.slot = slot;
+        if self.slot.tenancy() < GREATEST_TENANCY {
+            return;
         }
+        let Some(slot) = self.spare.take() else {
+            unreachable!()
+        };
+        self.slot = slot;
     }
 
     /// The head is done with: the chart of its request is kept, if it was that of one, and the connection leaves the slot.
@@ -404,6 +454,8 @@ impl Place {
         ensures line { self.new.live.line ≡ self.old.live.line }
         ensures limits { self.new.live.limits ≡ self.old.live.limits }
         ensures who { self.new.who ≡ self.old.who }
+        ensures slot { IsInItsSlot self.new }
+        ensures visits { visits_of self.new.slot ≡ visits_of self.old.slot }
     {
         if self.slot.has_request() {
             self.charts.push_reserved(chart);
@@ -420,7 +472,8 @@ impl Place {
     /// Holds the place for a connection, to whose line nothing has happened.
     pub fn admit(&mut self, share: Share, number: u64)
         requires nobody { self.old.who ≡ None }
-        ensures { self.new ≡ record self.old { who = Some (record { share = share; number = number }) } }
+        ensures admitted { self.new ≡ record self.old { who = Some (record { share = share; number = number }) } }
+        ensures slot { IsInItsSlot self.new }
     {
         let Some(mut idle) = self.idle.take() else {
             unreachable!()
@@ -437,6 +490,8 @@ impl Place {
         ensures share { option_map (λ w. w.share) self.old.who ≡ Some result.0 }
         ensures charts { result.1.items ≡ self.old.live.charts }
         ensures nobody { self.new.who ≡ None }
+        ensures slot { IsInItsSlot self.new }
+        ensures visits { visits_of self.new.slot ≡ visits_of self.old.slot }
         ensures lives { Lives ((START, opened) ∷ []) self.new.live }
         ensures limits { self.new.live.limits ≡ self.old.live.limits }
         ensures moment { self.new.live.line.moment ≡ START }
@@ -475,23 +530,16 @@ fn stands_due(standing: Standing) -> bool
     matches!(standing, Standing::Due)
 }
 
-/// Whether the act was refused, or could do nothing now.
-fn is_refusal(reply: Reply) -> bool
-    ensures { result ≡ is_refusal reply }
+/// Whether it is a turn of a worker.
+fn is_turn(step: &Step) -> bool
+    ensures { result ≡ is_turn step.now }
 {
-    matches!(
-        reply,
-        Reply::Again
-            | Reply::Illegal(_)
-            | Reply::Unsupported
-            | Reply::AlreadySet
-            | Reply::Committed
-            | Reply::BadValue
-            | Reply::TooMany(_)
-            | Reply::NotActive
-            | Reply::NoConn
-            | Reply::NoPass
-            | Reply::Ended
-            | Reply::Closed
-    )
+    matches!(step, Step::Run(_))
+}
+
+/// Whether a callback acts.
+fn is_act(step: &Step) -> bool
+    ensures { result ≡ is_act step.now }
+{
+    matches!(step, Step::Act { .. })
 }

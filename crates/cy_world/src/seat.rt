@@ -1,22 +1,21 @@
 //! A place with all that was written on its connection: it takes one entry at a time.
 ghost use Rattle.std.specs.Prelude.{◌≡◌, ◌≤◌, ◌+◌, [], false, true, is_some, length, option_map, vec_len, vec_capacity, Some, OnErr, OnOk, IfOk};
 ghost use Rattle.cy_event.specs.declared.head.TheConstants.{HEAD_ROOM, FIELD_ROOM};
-ghost use Rattle.cy_model.specs.Connections.{kind_of};
-ghost use Rattle.cy_model.specs.Entries.{after, on_act, on_event, on_run, opening};
+ghost use Rattle.cy_model.specs.Entries.{after, opening};
 ghost use Rattle.cy_model.specs.Outputs.{is_gone, took};
 ghost use Rattle.cy_model.specs.Marks.{Trace};
-ghost use Rattle.cy_model.specs.Steps.{IsWithinBytes};
+ghost use Rattle.cy_model.specs.Replies.{is_refusal};
 ghost use Rattle.cy_proc.specs.Processors.{is_open_at, is_over_at};
 ghost use Rattle.cy_slot.specs.Reaching.{Who, who_is};
 ghost use Rattle.cy_rings.specs.declared.kit.TheConstants.{OUT_CAPACITY};
-ghost use Rattle.cy_world.specs.Answered.{AnswersEach, AnswersKind, IsOwn, IsSameButRooms, IsVacant, Keeps, Tells, TellsEach, charts_asked, is_closed_reply, parts_with, seat_parts, start};
-ghost use Rattle.cy_world.specs.Places.{HasRoom, Lives};
+ghost use Rattle.cy_world.specs.Answered.{AnswersEach, IsOwn, IsSameButRooms, IsVacant, Keeps, Tells, TellsEach, charts_asked, entry_by, seat_parts, start};
+ghost use Rattle.cy_world.specs.Places.{CountsHeads, HasRoom, IsInItsSlot, Lives, visits_of};
 ghost use Rattle.cy_world.specs.Told.{TalliesEach, tally_of};
 
 use crate::place::Place;
-use crate::settings::Settings;
+use crate::terms::Terms;
 use cy_bytes::Bytes;
-use cy_event::{Act, CloseCause, Event, Limits, NoMemory, Reply, Step};
+use cy_event::{CloseCause, Limits, NoMemory, Reply, Step};
 use cy_latch::Share;
 use cy_rings::OUT_CAPACITY;
 use cy_slot::Slot;
@@ -85,6 +84,7 @@ impl Seat {
         requires head_room { limits.now.max_head ≤ HEAD_ROOM }
         requires field_room { limits.now.max_fields ≤ FIELD_ROOM }
         ensures vacant { IfOk result (λ seat. IsVacant limits.now seat) }
+        ensures unvisited { IfOk result (λ seat. visits_of seat.place.slot ≡ 0) }
     {
         let place = Place::new(alloc, limits)?;
         Ok(Seat {
@@ -143,7 +143,7 @@ impl Seat {
     /// How many bytes the socket took.
     fn took(&self) -> u64
         requires kept { is_over_at self.now.place.live.processor.stage ≡ false }
-        ensures { (s : Settings) (T : Trace) → Keeps s T (seat_parts self.now) → result ≡ took T }
+        ensures { (s : Terms) (T : Trace) → Keeps s T (seat_parts self.now) → result ≡ took T }
     {
         let written = self.written.as_slice().len();
         written.saturating_sub(self.place.unsent_len()) as u64
@@ -164,45 +164,70 @@ impl Seat {
 
     /// Holds the place for a connection that is admitted now. What is written on it goes into this vector, which has
     /// room.
-    pub fn admit(&mut self, share: Share, number: u64, mut written: Vec<u8>, settings: &Settings)
-        requires vacant { IsVacant settings.now.limits self.old }
+    pub fn admit(&mut self, share: Share, number: u64, mut written: Vec<u8>, terms: &Terms)
+        requires vacant { IsVacant terms.now.limits self.old }
         requires room { HasRoom 0 self.old.place }
         requires empty { written.items ≡ [] }
         requires writing_room { OUT_CAPACITY ≤ vec_capacity written }
-        ensures keeps { Keeps settings.now (after settings.now.limits settings.now.rules start [] opening) (seat_parts self.new) }
+        ensures keeps { Keeps terms.now (after terms.now.limits terms.now.rules start [] opening) (seat_parts self.new) }
         ensures who { self.new.place.who ≡ Some (record { share = share; number = number }) }
+        ensures counts { CountsHeads self.old.place self.new.place }
+        ensures slot { IsInItsSlot self.new.place }
     {
         self.place.admit(share, number);
         let first = self.place.unsent_len();
-        self.place.settle(&settings.rules);
+        self.place.settle(&terms.rules);
         self.place.push_unsent(first, &mut written);
         self.written = Bytes::of(written);
     }
 
-    /// Takes an entry of the connection.
+    /// Takes an entry of the connection. One that is refused is followed by nothing.
     ///
     /// # Errors
     ///
     /// Where memory ran out. Then nothing has changed.
-    pub fn take(&mut self, step: &Step, settings: &Settings) -> Result<Reply, NoMemory>
+    pub fn take(&mut self, step: &Step, terms: &Terms) -> Result<Reply, NoMemory>
         requires own { IsOwn step.now }
         requires kept { is_over_at self.old.place.live.processor.stage ≡ false }
         requires guest { is_some self.old.place.who ≡ true }
-        ensures answers { IfOk result (λ r. AnswersKind settings.now (kind_of step.now) (seat_parts self.old) r (seat_parts self.new)) }
+        requires slot { IsInItsSlot self.old.place }
+        ensures answers { IfOk result (λ r. AnswersEach terms.now (entry_by step.now) (seat_parts self.old) r (seat_parts self.new)) }
         ensures who { self.new.place.who ≡ self.old.place.who }
         ensures kept { is_over_at self.new.place.live.processor.stage ≡ false }
+        ensures counts { OnOk result (CountsHeads self.old.place self.new.place) }
+        ensures slot { OnOk result (IsInItsSlot self.new.place) }
         ensures unchanged { OnErr result (IsSameButRooms self.old self.new) }
     {
         self.place.reserve(charts_asked(step))?;
+        let items = self.place.chart_items(step)?;
+        let mut written = self.take_written()?;
+        let (first, told) = self.place.tell(step, items);
+        if is_refusal(told) {
+            self.written = Bytes::of(written);
+            return Ok(told);
+        }
+        let reply = self.place.follow(step, told, &terms.rules);
+        self.place.push_unsent(first, &mut written);
+        self.written = Bytes::of(written);
+        Ok(reply)
+    }
+
+    /// All that was written, with room for what an entry may write. It is to be put back.
+    fn take_written(&mut self) -> Result<Vec<u8>, NoMemory>
+        ensures taken { IfOk result (λ written. written.items ≡ self.old.written) }
+        ensures room { IfOk result (λ written. vec_len written + OUT_CAPACITY ≤ vec_capacity written) }
+        ensures place { self.new.place ≡ self.old.place }
+        ensures unchanged { OnErr result (self.new ≡ self.old) }
+    {
         let empty = Bytes::of(Vec::new(self.alloc));
         let mut written = mem::replace(&mut self.written, empty).into_vec();
-        if written.reserve(OUT_CAPACITY).is_err() {
-            self.written = Bytes::of(written);
-            return Err(NoMemory);
+        match written.reserve(OUT_CAPACITY) {
+            Ok(()) => Ok(written),
+            Err(_) => {
+                self.written = Bytes::of(written);
+                Err(NoMemory)
+            }
         }
-        let reply = take_own(&mut self.place, &mut written, step, settings);
-        self.written = Bytes::of(written);
-        reply
     }
 
     /// Whether the connection is closed.
@@ -222,6 +247,7 @@ impl Seat {
         ensures tells { TellsEach (seat_parts self.old) result.1 }
         ensures share { option_map (λ w. w.share) self.old.place.who ≡ Some result.0 }
         ensures vacant { IsVacant self.old.place.live.limits self.new }
+        ensures visits { visits_of self.new.place.slot ≡ visits_of self.old.place.slot }
     {
         let cause = self.place.cause();
         let took = self.took();
@@ -240,101 +266,6 @@ impl Seat {
     }
 }
 
-/// Takes an entry, and appends what is written.
-fn take_own(
-    place: &mut Place,
-    written: &mut Vec<u8>,
-    step: &Step,
-    settings: &Settings,
-) -> Result<Reply, NoMemory>
-    requires own { IsOwn step.now }
-    requires kept { is_over_at place.old.live.processor.stage ≡ false }
-    requires guest { is_some place.old.who ≡ true }
-    requires room { HasRoom (charts_asked step.now) place.old }
-    requires writing_room { vec_len written.old + OUT_CAPACITY ≤ vec_capacity written.old }
-    ensures answers { IfOk result (λ r. AnswersKind settings.now (kind_of step.now) (parts_with place.old written.old.items) r (parts_with place.new written.new.items)) }
-    ensures who { place.new.who ≡ place.old.who }
-    ensures kept { is_over_at place.new.live.processor.stage ≡ false }
-    ensures unchanged { OnErr result (place.new ≡ place.old) }
-    ensures unwritten { OnErr result (written.new.items ≡ written.old.items) }
-{
-    match step {
-        Step::On { event, bytes, .. } => {
-            Ok(take_event(place, written, *event, bytes.as_slice(), settings))
-        }
-        Step::Run(_) => Ok(take_turn(place, written, settings)),
-        Step::Act { act, bytes, .. } => take_act(place, written, act, bytes.as_slice(), settings),
-        Step::At(_) | Step::Admit(_) => unreachable!(),
-    }
-}
-
-/// The socket tells something.
-fn take_event(
-    place: &mut Place,
-    written: &mut Vec<u8>,
-    event: Event,
-    bytes: &[u8],
-    settings: &Settings,
-) -> Reply
-    requires kept { is_over_at place.old.live.processor.stage ≡ false }
-    requires guest { is_some place.old.who ≡ true }
-    requires room { HasRoom (length bytes.now) place.old }
-    requires writing_room { vec_len written.old + OUT_CAPACITY ≤ vec_capacity written.old }
-    ensures answers { AnswersEach settings.now (on_event event bytes.now) (parts_with place.old written.old.items) result (parts_with place.new written.new.items) }
-    ensures who { place.new.who ≡ place.old.who }
-    ensures kept { is_over_at place.new.live.processor.stage ≡ false }
-{
-    let reply = place.event(event, bytes);
-    if is_closed(reply) {
-        return reply;
-    }
-    let first = place.unsent_len();
-    place.settle(&settings.rules);
-    place.push_unsent(first, written);
-    reply
-}
-
-/// A worker turns to the connection.
-fn take_turn(place: &mut Place, written: &mut Vec<u8>, settings: &Settings) -> Reply
-    requires kept { is_over_at place.old.live.processor.stage ≡ false }
-    requires guest { is_some place.old.who ≡ true }
-    requires room { HasRoom 0 place.old }
-    requires writing_room { vec_len written.old + OUT_CAPACITY ≤ vec_capacity written.old }
-    ensures answers { AnswersEach settings.now on_run (parts_with place.old written.old.items) result (parts_with place.new written.new.items) }
-    ensures who { place.new.who ≡ place.old.who }
-    ensures kept { is_over_at place.new.live.processor.stage ≡ false }
-{
-    let first = place.unsent_len();
-    let reply = place.run(&settings.rules);
-    place.push_unsent(first, written);
-    reply
-}
-
-/// The callback that runs acts.
-fn take_act(
-    place: &mut Place,
-    written: &mut Vec<u8>,
-    act: &Act,
-    bytes: &[u8],
-    settings: &Settings,
-) -> Result<Reply, NoMemory>
-    requires kept { is_over_at place.old.live.processor.stage ≡ false }
-    requires guest { is_some place.old.who ≡ true }
-    requires room { HasRoom 1 place.old }
-    requires within { IsWithinBytes act.now bytes.now }
-    requires writing_room { vec_len written.old + OUT_CAPACITY ≤ vec_capacity written.old }
-    ensures answers { IfOk result (λ r. AnswersEach settings.now (on_act act.now bytes.now) (parts_with place.old written.old.items) r (parts_with place.new written.new.items)) }
-    ensures who { place.new.who ≡ place.old.who }
-    ensures kept { is_over_at place.new.live.processor.stage ≡ false }
-    ensures unchanged { OnErr result (place.new ≡ place.old) }
-    ensures unwritten { OnErr result (written.new.items ≡ written.old.items) }
-{
-    let first = place.unsent_len();
-    let reply = place.act(act, bytes, &settings.rules)?;
-    place.push_unsent(first, written);
-    Ok(reply)
-}
-
 /// For how many further charts a step may need room: for one of each byte that comes, and for that of a request that an
 /// act ends.
 fn charts_asked(step: &Step) -> usize
@@ -347,9 +278,23 @@ fn charts_asked(step: &Step) -> usize
     }
 }
 
-/// Whether an event found the connection closed.
-fn is_closed(reply: Reply) -> bool
-    ensures { result ≡ is_closed_reply reply }
+/// Whether an entry was refused, or could do nothing now.
+fn is_refusal(reply: Reply) -> bool
+    ensures { result ≡ is_refusal reply }
 {
-    matches!(reply, Reply::Closed)
+    matches!(
+        reply,
+        Reply::Again
+            | Reply::Illegal(_)
+            | Reply::Unsupported
+            | Reply::AlreadySet
+            | Reply::Committed
+            | Reply::BadValue
+            | Reply::TooMany(_)
+            | Reply::NotActive
+            | Reply::NoConn
+            | Reply::NoPass
+            | Reply::Ended
+            | Reply::Closed
+    )
 }

@@ -1,6 +1,7 @@
 // A connector, driven by its steps: what each is answered, and what is told of its connections. The
 // steps stand in lines of text, and so does what is wanted. Memory is ample.
-ghost use Rattle.std.specs.Prelude.{◌≡◌, true};
+ghost use Rattle.std.specs.Prelude.{◌≡◌, ◌≤◌, true};
+ghost use Rattle.cy_event.specs.declared.head.TheConstants.{FIELD_ROOM, HEAD_ROOM};
 ghost use Rattle.cy_world.specs.Worlds.{CanTake};
 
 use super::*;
@@ -21,15 +22,25 @@ fn rule(alloc: Global, pattern: &str, part: u32) -> Result<Rule, Fail> {
     })
 }
 
-/// A connector for so many connections. Component 0 serves `/a` and what is below it, component 7
-/// the same of `/b`.
-fn world(alloc: Global, most: u32) -> Result<World, Fail> {
-    let limits = Limits {
+/// Component 0 serves `/a` and what is below it, component 7 the same of `/b`.
+fn rules(alloc: Global) -> Result<[Rule; 2], Fail> {
+    Ok([rule(alloc, "/a/*", 0)?, rule(alloc, "/b/*", 7)?])
+}
+
+/// The limits of a connector for so many connections.
+fn limits_for(most: u32) -> Limits
+    ensures head_room { result.max_head ≤ HEAD_ROOM }
+    ensures field_room { result.max_fields ≤ FIELD_ROOM }
+{
+    Limits {
         max_connections: most,
         ..Limits::standard(8)
-    };
-    let rules = [rule(alloc, "/a/*", 0)?, rule(alloc, "/b/*", 7)?];
-    Ok(World::new(alloc, &limits, &rules)?)
+    }
+}
+
+/// A connector for so many connections.
+fn world(alloc: Global, most: u32) -> Result<World, Fail> {
+    Ok(World::new(alloc, &limits_for(most), &rules(alloc)?)?)
 }
 
 /// Whether the connector takes the step: a number is admitted once, and the bytes that are written
@@ -236,7 +247,9 @@ fn a_connection_is_served_until_it_is_gone(rt: HostRuntime) -> Result<(), Fail> 
     expect(&rt, alloc, &mut world, SERVED)
 }
 
+mod apart;
 mod limits;
 mod memory;
 mod mixed;
 mod recycled;
+mod report;

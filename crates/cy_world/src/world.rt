@@ -1,5 +1,5 @@
 //! The connector: it takes one step at a time, whichever it is.
-ghost use Rattle.std.specs.Prelude.{◌≡◌, ◌≤◌, ◌<◌, All, List, [], false, is_some, length, true, IfErr, IfNone, IfOk, IfSome, OnErr, OnOk, Some, option_copied, option_map, unwrap_or};
+ghost use Rattle.std.specs.Prelude.{◌≡◌, ◌≤◌, ◌<◌, ◌*◌, All, List, [], false, is_some, length, true, IfErr, IfNone, IfOk, IfSome, OnErr, OnOk, Some, option_copied, option_map, unwrap_or, vec_capacity};
 ghost use Rattle.std.specs.Option.{option_flatten};
 ghost use Rattle.cy_event.specs.declared.head.TheConstants.{HEAD_ROOM, FIELD_ROOM};
 ghost use Rattle.cy_event.specs.declared.steps.Step.{Step as AnyStep};
@@ -12,18 +12,20 @@ ghost use Rattle.cy_model.specs.Outputs.{output, took};
 ghost use Rattle.cy_model.specs.Replies.{plain};
 ghost use Rattle.cy_proc.specs.Processors.{is_over_at};
 ghost use Rattle.cy_slot.specs.Reaching.{Who, who_is};
+ghost use Rattle.cy_rings.specs.declared.kit.TheConstants.{OUT_CAPACITY};
 ghost use Rattle.cy_world.specs.Answered.{IsOwn, IsSameButRooms, IsVacant};
-ghost use Rattle.cy_world.specs.Faults.{IsFaultOf};
-ghost use Rattle.cy_world.specs.declared.world.Admitted.TheVariants.{Seated};
-ghost use Rattle.cy_world.specs.Told.{IsHeldFor, SitsIn, replied, request_count, slot_at, tally_of, told_of};
 ghost use Rattle.cy_world.specs.Places.{HasRoom};
-ghost use Rattle.cy_world.specs.Worlds.{CanTake, IsOwnOf, PutsDown, Retires, StandsFor, TakesStep, find_in};
+ghost use Rattle.cy_world.specs.declared.world.Admitted.TheVariants.{Seated};
+ghost use Rattle.cy_world.specs.Counts.{tenancies};
+ghost use Rattle.cy_world.specs.Faults.{IsFaultOf};
+ghost use Rattle.cy_world.specs.Told.{IsHeldFor, SitsIn, replied, request_count, slot_at, tally_of, told_of};
+ghost use Rattle.cy_world.specs.Worlds.{CanTake, IsAsBefore, IsOwnOf, PutsDown, Retires, StandsFor, TakesStep, find_in};
 
 mod report;
 
 use crate::fault::WorldFault;
 use crate::seat::{Account, Seat, Tally};
-use crate::settings::Settings;
+use crate::terms::Terms;
 use cy_bytes::Bytes;
 use cy_event::{CloseCause, Limits, NoMemory, Reply, Step};
 use cy_latch::{Enter, LatchBook};
@@ -54,7 +56,7 @@ pub struct Replied {
 /// A connector: as many places as connections may be counted, and the book of those that were admitted.
 #[derive(Drop)]
 pub struct World {
-    settings: Settings,
+    terms: Terms,
     latch: LatchBook,
     seats: Vec<Seat>,
     book: BTreeMap<u64, Admitted>,
@@ -65,10 +67,10 @@ impl Model for World {
 
     ghost Value = { WorldParts };
 
-    ghost view = { λ w. record { settings = w.settings; latch = w.latch; seats = w.seats.items; book = w.book.entries } };
+    ghost view = { λ w. record { terms = w.terms; latch = w.latch; seats = w.seats.items; book = w.book.entries } };
 
     // It stands for some steps.
-    ghost invariant = { λ w. IsWorld (record { settings = w.settings; latch = w.latch; seats = w.seats.items; book = w.book.entries }) };
+    ghost invariant = { λ w. IsWorld (record { terms = w.terms; latch = w.latch; seats = w.seats.items; book = w.book.entries }) };
 }
 
 impl World {
@@ -83,8 +85,8 @@ impl World {
         requires field_room { limits.now.max_fields ≤ FIELD_ROOM }
         requires rules { length rules.now ≤ MAX_RULES }
         ensures stands { IfOk result (λ world. StandsFor [] world) }
-        ensures limits { IfOk result (λ world. world.settings.limits ≡ limits.now) }
-        ensures rules { IfOk result (λ world. world.settings.rules ≡ rules.now) }
+        ensures limits { IfOk result (λ world. world.terms.limits ≡ limits.now) }
+        ensures rules { IfOk result (λ world. world.terms.rules ≡ rules.now) }
         ensures taken { OnOk result (IsTaken rules.now) }
         ensures fault { IfErr result (IsFaultOf rules.now) }
     {
@@ -99,7 +101,7 @@ impl World {
             return Err(WorldFault::NoMemory);
         };
         Ok(World {
-            settings: Settings {
+            terms: Terms {
                 limits: *limits,
                 rules,
             },
@@ -113,64 +115,51 @@ impl World {
     ///
     /// # Errors
     ///
-    /// Where memory ran out. Then the connector stands for the same steps.
+    /// Where memory ran out. Then all is as before, but that there may be more room.
     pub fn step(&mut self, alloc: Global, step: &Step) -> Result<Replied, NoMemory>
         requires { CanTake step.now self.old }
         ensures takes { IfOk result (λ r. (w : List AnyStep) → StandsFor w self.old → TakesStep w step.now self.old (replied r) self.new) }
-        ensures unchanged { OnErr result ((w : List AnyStep) → StandsFor w self.old → StandsFor w self.new) }
-        ensures settings { self.new.settings ≡ self.old.settings }
+        ensures unchanged { OnErr result (IsAsBefore self.old self.new) }
+        ensures stands { OnErr result ((w : List AnyStep) → StandsFor w self.old → StandsFor w self.new) }
+        ensures terms { self.new.terms ≡ self.old.terms }
     {
-        let reply = match step {
-            Step::At(_) => unreachable!(),
-            Step::Admit(number) => self.admit(alloc, *number)?,
-            Step::On { conn, .. } | Step::Run(conn) | Step::Act { conn, .. } => {
-                self.own(*conn, step)?
-            }
+        if let Step::Admit(number) = step {
+            let reply = self.admit(alloc, *number)?;
+            return Ok(without_bytes(alloc, reply));
+        }
+        let number = conn_of(step);
+        let place = match self.book.get(&number) {
+            None => return Ok(without_bytes(alloc, Reply::NoConn)),
+            Some(Admitted::Gone(_)) => return Ok(without_bytes(alloc, Reply::Closed)),
+            Some(Admitted::Seated(place)) => *place,
         };
-        let got = Bytes::of(Vec::new(alloc));
-        Ok(Replied { reply, got })
+        let seat = &mut self.seats[place as usize];
+        let reply = seat.take(step, &self.terms)?;
+        retire_if_gone(number, seat, &mut self.latch, &mut self.book);
+        Ok(without_bytes(alloc, reply))
     }
 
     /// A connection asks to be admitted, of which there was none of this number.
     fn admit(&mut self, alloc: Global, number: u64) -> Result<Reply, NoMemory>
         requires new { CanTake (Step.Admit number) self.old }
         ensures takes { IfOk result (λ r. (w : List AnyStep) → StandsFor w self.old → TakesStep w (Step.Admit number) self.old (plain r) self.new) }
-        ensures unchanged { OnErr result ((w : List AnyStep) → StandsFor w self.old → StandsFor w self.new) }
-        ensures settings { self.new.settings ≡ self.old.settings }
+        ensures unchanged { OnErr result (IsAsBefore self.old self.new) }
+        ensures stands { OnErr result ((w : List AnyStep) → StandsFor w self.old → StandsFor w self.new) }
+        ensures terms { self.new.terms ≡ self.old.terms }
     {
-        let written = Vec::with_capacity(alloc, 2 * OUT_CAPACITY)?;
         let share = match self.latch.enter() {
             Enter::Full { count } => return Ok(Reply::Full(count)),
             Enter::Entered(share) => share,
         };
         let place = share.number();
         let seat = &mut self.seats[place as usize];
-        let Ok(()) = book_seat(number, place, seat, &mut self.book) else {
+        let Ok(written) = book_seat(alloc, number, place, seat, &mut self.book) else {
             self.latch.leave(share);
             return Err(NoMemory);
         };
-        seat.admit(share, number, written, &self.settings);
+        seat.admit(share, number, written, &self.terms);
         retire_if_gone(number, seat, &mut self.latch, &mut self.book);
         Ok(Reply::Entered)
-    }
-
-    /// A step of a connection.
-    fn own(&mut self, number: u64, step: &Step) -> Result<Reply, NoMemory>
-        requires own { IsOwnOf number step.now }
-        requires within { IsOwn step.now }
-        ensures takes { IfOk result (λ r. (w : List AnyStep) → StandsFor w self.old → TakesStep w step.now self.old (plain r) self.new) }
-        ensures unchanged { OnErr result ((w : List AnyStep) → StandsFor w self.old → StandsFor w self.new) }
-        ensures settings { self.new.settings ≡ self.old.settings }
-    {
-        let place = match self.book.get(&number) {
-            None => return Ok(Reply::NoConn),
-            Some(Admitted::Gone(_)) => return Ok(Reply::Closed),
-            Some(Admitted::Seated(place)) => *place,
-        };
-        let seat = &mut self.seats[place as usize];
-        let reply = seat.take(step, &self.settings)?;
-        retire_if_gone(number, seat, &mut self.latch, &mut self.book);
-        Ok(reply)
     }
 
     /// All that was written on the connection of this number, if one was admitted.
@@ -230,15 +219,15 @@ impl World {
 
     /// How many connections are counted: those that were admitted and aren't gone.
     pub fn counted(&self) -> u64
-        ensures count { (w : List AnyStep) → StandsFor w self.now → result ≡ counted self.now.settings.limits self.now.settings.rules (connections self.now.settings.limits self.now.settings.rules w) }
-        ensures within { result ≤ self.now.settings.limits.max_connections }
+        ensures count { (w : List AnyStep) → StandsFor w self.now → result ≡ counted self.now.terms.limits self.now.terms.rules (connections self.now.terms.limits self.now.terms.rules w) }
+        ensures within { result ≤ self.now.terms.limits.max_connections }
     {
         self.latch.count()
     }
 
     /// The slot of this number. Whoever sits in it is he for whom the place of that number is held.
     pub fn slot(&self, i: u32) -> &Slot
-        requires within { i < self.now.settings.limits.max_connections }
+        requires within { i < self.now.terms.limits.max_connections }
         ensures slot { slot_at i self.now ≡ Some result.now }
         ensures guest { (who : Who) → who_is result.now.tenant ≡ Some who → IsHeldFor who i self.now }
     {
@@ -248,7 +237,7 @@ impl World {
     /// The number of the slot in which the connection sits: it does while a request of it is open.
     pub fn place(&self, conn: u64) -> Option<u32>
         ensures sits { IfSome result (λ i. SitsIn conn i self.now) }
-        ensures within { IfSome result (λ i. i < self.now.settings.limits.max_connections) }
+        ensures within { IfSome result (λ i. i < self.now.terms.limits.max_connections) }
         ensures open { (w : List AnyStep) → StandsFor w self.now → is_some result ≡ unwrap_or (told_of is_open self.now w conn) false }
     {
         match self.book.get(&conn)? {
@@ -263,6 +252,7 @@ fn seats(alloc: Global, limits: &Limits) -> Result<Vec<Seat>, NoMemory>
     requires head_room { limits.now.max_head ≤ HEAD_ROOM }
     requires field_room { limits.now.max_fields ≤ FIELD_ROOM }
     ensures vacant { IfOk result (λ seats. All (IsVacant limits.now) seats.items) }
+    ensures unvisited { IfOk result (λ seats. tenancies seats.items ≡ 0) }
     ensures count { IfOk result (λ seats. length seats.items ≡ limits.now.max_connections) }
 {
     let count = limits.max_connections as usize;
@@ -273,24 +263,48 @@ fn seats(alloc: Global, limits: &Limits) -> Result<Vec<Seat>, NoMemory>
     Ok(seats)
 }
 
-/// Puts down that the place of this number is held for the connection, once what memory its opening may need was got.
+/// Puts down that the place of this number is held for the connection, once what memory its opening may need was got:
+/// also a vector with room for what is written on it.
 fn book_seat(
+    alloc: Global,
     number: u64,
     place: u32,
     seat: &mut Seat,
     book: &mut BTreeMap<u64, Admitted>,
-) -> Result<(), NoMemory>
+) -> Result<Vec<u8>, NoMemory>
     requires kept { is_over_at seat.old.place.live.processor.stage ≡ false }
+    ensures empty { IfOk result (λ written. written.items ≡ []) }
+    ensures writing_room { IfOk result (λ written. OUT_CAPACITY ≤ vec_capacity written) }
     ensures room { OnOk result (HasRoom 0 seat.new.place) }
     ensures same { IsSameButRooms seat.old seat.new }
     ensures booked { OnOk result (PutsDown number (Seated place) book.old.entries book.new.entries) }
     ensures unbooked { OnErr result (book.new.entries ≡ book.old.entries) }
 {
     seat.reserve()?;
+    let written = Vec::with_capacity(alloc, 2 * OUT_CAPACITY)?;
     match book.insert(number, Admitted::Seated(place)) {
-        Ok(_) => Ok(()),
+        Ok(_) => Ok(written),
         Err(_) => Err(NoMemory),
     }
+}
+
+/// The number of the connection whose entry the step is.
+fn conn_of(step: &Step) -> u64
+    requires { IsOwn step.now }
+    ensures { IsOwnOf result step.now }
+{
+    match step {
+        Step::On { conn, .. } | Step::Run(conn) | Step::Act { conn, .. } => *conn,
+        Step::At(_) | Step::Admit(_) => unreachable!(),
+    }
+}
+
+/// This reply, without bytes.
+fn without_bytes(alloc: Global, reply: Reply) -> Replied
+    ensures { replied result ≡ plain reply }
+{
+    let got = Bytes::of(Vec::new(alloc));
+    Replied { reply, got }
 }
 
 /// Where the connection of this number is gone, its place is held for nobody any more, its share is left, and the book

@@ -32,6 +32,10 @@ replayed script = report script.limits script.rules script.steps
 abbrev pub report_of : List ℕ → Option (List ℕ)
 report_of input = option_map replayed (script_of input)
 
+-- the source was read to its end, and all that it had left is the text of the script
+abbrev pub ReadsScript : Option (List ℕ) → Option (List ℕ) → Script → Type 0
+ReadsScript left now script = (input : List ℕ) × ReadsAll left now input × (script_of input ≡ Some script)
+
 -- the source was read to its end, and the text is the report of all that it had left
 abbrev pub Reports : Option (List ℕ) → Option (List ℕ) → List ℕ → Type 0
 Reports left now text = (input : List ℕ) × ReadsAll left now input × (report_of input ≡ Some text)

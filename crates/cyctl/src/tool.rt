@@ -6,13 +6,12 @@ ghost use Rattle.cy_script.specs.Kept.{IsScript};
 ghost use Rattle.cyctl.specs.declared.tool.Refusal.TheVariants.{NoMemory};
 ghost use Rattle.cyctl.specs.Causes.{ReadsAll, WasRead, WritesFront};
 ghost use Rattle.cyctl.specs.Check.{IsCheck, IsChecked};
-ghost use Rattle.cyctl.specs.Tool.{HasNotRisen, IsInForm, IsOutside, IsReplay, IsReplayStatus, IsTold, Reports, WritesReport, WritesReportFront, Tells, message_of, refusal_for, refusal_of, status_of, no_memory, refused_script, replayed, report_of, source_fault, too_large, usage};
+ghost use Rattle.cyctl.specs.Tool.{HasNotRisen, IsInForm, IsOutside, IsReplay, IsReplayStatus, IsTold, ReadsScript, WritesReport, WritesReportFront, Tells, message_of, refusal_for, refusal_of, status_of, no_memory, refused_script, source_fault, too_large, usage};
 ghost use Rattle.cyctl.specs.declared.input.TheConstants.{GREATEST_INPUT};
 
 use crate::check::{check, is_check};
 use crate::input::{InputFault, read_all};
 use crate::output::write_all;
-use cy_bytes::Bytes;
 use cy_link::{Sink, Source};
 use cy_script::{Script, ScriptFault, read_script};
 use cy_world::{WorldFault, run};
@@ -100,42 +99,18 @@ impl From<AllocError> for Refusal {
     }
 }
 
-/// The report of a script: a connector takes its steps, over slots that are used again.
-fn report(alloc: Global, script: &Script) -> Result<Bytes, AllocError>
-    requires { IsScript script.now }
-    ensures { IfOk result (λ text. text ≡ replayed script.now) }
-{
-    let rules = script.rules.as_slice();
-    match run(alloc, &script.limits, rules, script.steps.as_slice()) {
-        Ok(text) => Ok(text),
-        Err(WorldFault::NoMemory) => Err(AllocError),
-        Err(WorldFault::BadPattern { .. }) => unreachable!(),
-        Err(WorldFault::RuleTwice { .. }) => unreachable!(),
-    }
-}
-
-/// The report of an input.
-fn report_input(alloc: Global, input: &[u8]) -> Result<Vec<u8>, Refusal>
-    ensures report { IfOk result (λ text. report_of input.now ≡ Some text.items) }
-    ensures script { result ≡ Err Refusal.Script → report_of input.now ≡ None }
-    ensures memory { OnErr result (result ≢ Err Refusal.Script → result ≡ Err Refusal.NoMemory) }
-{
-    let script = read_script(alloc, input)?;
-    let text = report(alloc, &script)?;
-    Ok(text.into_vec())
-}
-
-/// The report of what the source has left.
-fn report_source<S: Source>(alloc: Global, source: &mut S) -> Result<Vec<u8>, Refusal>
-    ensures report { IfOk result (λ text. Reports (S.left source.old) (S.left source.new) text.items) }
-    ensures script { result ≡ Err Refusal.Script → IsOutside (S.left source.old) (S.left source.new) }
+/// The script that the source has left.
+fn read_source<S: Source>(alloc: Global, source: &mut S) -> Result<Script, Refusal>
+    ensures script { IfOk result (λ script. ReadsScript (S.left source.old) (S.left source.new) script) }
+    ensures form { IfOk result IsScript }
+    ensures outside { result ≡ Err Refusal.Script → IsOutside (S.left source.old) (S.left source.new) }
     ensures failed { result ≡ Err Refusal.Source → Rose (S.faults source.old) (S.faults source.new) }
     ensures too_large { result ≡ Err Refusal.TooLarge → WasRead (λ n. GREATEST_INPUT < n) (S.left source.old) (S.left source.new) }
     ensures not_too_large { result ≢ Err Refusal.TooLarge → WasRead (λ n. n ≤ GREATEST_INPUT) (S.left source.old) (S.left source.new) }
 {
     let input = read_all(alloc, source)?;
-    let text = report_input(alloc, &input)?;
-    Ok(text)
+    let script = read_script(alloc, &input)?;
+    Ok(script)
 }
 
 /// Tells a text, as far as the sink takes it.
@@ -156,7 +131,8 @@ pub fn refuse<K: Sink>(sink: &mut K, refusal: Refusal) -> u8
     refusal.status()
 }
 
-/// Replays the script that the source has: its report is written, or why there is none. The answer is the status.
+/// Replays the script that the source has: a connector takes its steps, over slots that are used again, and its report is
+/// written, or why there is none. The answer is the status.
 fn replay<S: Source, K: Sink>(alloc: Global, source: &mut S, sink: &mut K) -> u8
     ensures report { result ≡ 0 → WritesReport (S.left source.old) (S.left source.new) (K.held sink.old) (K.held sink.new) }
     ensures outside { result ≡ 3 → IsOutside (S.left source.old) (S.left source.new) }
@@ -168,12 +144,18 @@ fn replay<S: Source, K: Sink>(alloc: Global, source: &mut S, sink: &mut K) -> u8
     ensures told { IsTold (K.held sink.old) (K.held sink.new) (K.faults sink.old) (K.faults sink.new) result }
     ensures only { IsReplayStatus result }
 {
-    match report_source(alloc, source) {
-        Ok(text) => match write_all(sink, &text) {
+    let script = match read_source(alloc, source) {
+        Ok(script) => script,
+        Err(refusal) => return refuse(sink, refusal),
+    };
+    let (rules, steps) = (script.rules.as_slice(), script.steps.as_slice());
+    match run(alloc, &script.limits, rules, steps) {
+        Ok(text) => match write_all(sink, text.as_slice()) {
             Ok(()) => 0,
             Err(_) => 5,
         },
-        Err(refusal) => refuse(sink, refusal),
+        Err(WorldFault::NoMemory) => refuse(sink, Refusal::NoMemory),
+        Err(WorldFault::BadPattern { .. } | WorldFault::RuleTwice { .. }) => unreachable!(),
     }
 }
 

@@ -59,10 +59,39 @@ fn an_idle_line_closes_at_the_end_of_the_input(rt: HostRuntime) -> Result<(), Fa
     assert_eq!(rt; tell(&rt, &mut line, Event::End, b""), Reply::Closed);
     assert_eq!(rt; tell(&rt, &mut line, Event::Took(5), b""), Reply::Closed);
 
-    // The next connection finds nothing of it.
+    Ok(())
+}
+
+/// Refuses the head that is due, as a processor does.
+fn refuse(rt: &impl Abort, line: &mut Line) {
+    assert!(rt; !is_open(line));
+    assert!(rt; line.unsent_len() <= BEGIN_BOUND);
+    line.refuse(400, false);
+}
+
+#[test]
+fn the_next_connection_finds_nothing_of_the_former(rt: HostRuntime) -> Result<(), Fail> {
+    let mut line = Line::new(rt.alloc())?;
+    assert_eq!(rt;
+        tell(&rt, &mut line, Event::In, b"GET / HTTP/1.1\r\n\r\nGET"),
+        Reply::Taken(21)
+    );
+    assert_eq!(rt; tell(&rt, &mut line, Event::End, b""), Reply::Done);
+    assert_eq!(rt; settle(&rt, &mut line), Standing::Due);
+    refuse(&rt, &mut line);
+    assert_eq!(rt; settle(&rt, &mut line), Standing::Closing);
+    assert_eq!(rt; line.cause(), Some(CloseCause::Refused));
+    assert!(rt; line.unsent_len() > 0);
+    assert!(rt; line.in_room() < 16_384);
+
+    // Bytes that wait, a cause and the end of the input are of the former connection.
     line.renew(0);
-    assert_eq!(rt; settle(&rt, &mut line), Standing::Waiting);
+    assert_eq!(rt; line.unsent_len(), 0);
+    assert_eq!(rt; line.in_room(), 16_384);
     assert_eq!(rt; line.cause(), None);
+    assert_eq!(rt; settle(&rt, &mut line), Standing::Waiting);
+    assert_eq!(rt; tell(&rt, &mut line, Event::In, b"G"), Reply::Taken(1));
+    assert_eq!(rt; tell(&rt, &mut line, Event::Took(5), b""), Reply::Taken(0));
     Ok(())
 }
 

@@ -254,7 +254,7 @@ pub(super) fn expect_alone(
 }
 
 /// How many pairs of connections pass through the two slots.
-const PAIRS: u32 = 1_000;
+const PAIRS: u32 = 5_000;
 
 /// Two connections at a time: the one takes four steps before the other, and then they go by turns.
 fn pass_two(
@@ -275,6 +275,19 @@ fn pass_two(
     Ok(())
 }
 
+/// How many tenants sat before a new connection in the slot in which it comes to sit.
+fn tenants_before(
+    rt: &impl Abort,
+    alloc: Global,
+    world: &mut World,
+    conn: u64,
+) -> Result<u64, Fail> {
+    let _entered = answer(rt, alloc, world, conn, "admit")?;
+    let _taken = answer(rt, alloc, world, conn, "in GET /a HTTP/1.1~Host: a~~")?;
+    let slot = slot_of(world, conn).ok_or("it sits in no slot")?;
+    Ok(slot.tenancy())
+}
+
 #[test]
 fn many_connections_pass_through_two_slots(rt: HostRuntime) -> Result<(), Fail> {
     let alloc = rt.alloc();
@@ -289,5 +302,11 @@ fn many_connections_pass_through_two_slots(rt: HostRuntime) -> Result<(), Fail> 
         expect_alone(&rt, alloc, &world, first + 1, &mut other, &alone)?;
     }
     assert_eq!(rt; world.counted(), 0);
+
+    // Of eight courses one has three heads and two have none: so there were as many tenants as
+    // connections.
+    let one = tenants_before(&rt, alloc, &mut world, u64::from(PAIRS) * 2)?;
+    let other = tenants_before(&rt, alloc, &mut world, u64::from(PAIRS) * 2 + 1)?;
+    assert_eq!(rt; one.checked_add(other), Some(u64::from(PAIRS) * 2));
     Ok(())
 }

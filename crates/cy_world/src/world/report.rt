@@ -16,7 +16,7 @@ ghost use Rattle.cy_world.specs.Places.{charts_in};
 ghost use Rattle.cy_world.specs.Reporting.{connections_text, items_of, text_of};
 ghost use Rattle.cy_world.specs.Told.{is_clock, replied};
 ghost use Rattle.cy_world.specs.Worlds.{StandsFor, find_in};
-ghost use Rattle.cy_world.specs.declared.settings.Settings.{Settings};
+ghost use Rattle.cy_world.specs.declared.terms.Terms.{Terms};
 
 use super::{Admitted, Replied, World};
 use crate::fault::WorldFault;
@@ -50,31 +50,18 @@ pub fn run(
     ensures fault { IfErr result (IsFaultOf rules.now) }
 {
     let mut world = World::new(alloc, limits, rules)?;
-    match world.report(alloc, steps) {
-        Ok(text) => Ok(text),
-        Err(NoMemory) => Err(WorldFault::NoMemory),
+    let mut text = Vec::new(alloc);
+    for (index, step) in steps.iter().enumerate() {
+        let Ok(answer) = world.step(alloc, step) else {
+            return Err(WorldFault::NoMemory);
+        };
+        push_reply_line(alloc, &mut text, index + 1, &answer)?;
     }
+    world.push_connections(alloc, &mut text)?;
+    Ok(Bytes::of(text))
 }
 
 impl World {
-    /// The report of these steps, which it takes, and before which nothing happened.
-    fn report(&mut self, alloc: Global, steps: &[Step]) -> Result<Bytes, NoMemory>
-        requires stands { StandsFor [] self.old }
-        requires valid { IsValid (reverse steps.now) }
-        requires clock { list_any is_clock steps.now ≡ false }
-        ensures { IfOk result (λ text. text ≡ report self.old.settings.limits self.old.settings.rules steps.now) }
-    {
-        let mut text = Vec::new(alloc);
-        for (index, step) in steps.iter().enumerate() {
-            let Ok(answer) = self.step(alloc, step) else {
-                return Err(NoMemory);
-            };
-            push_reply_line(alloc, &mut text, index + 1, &answer)?;
-        }
-        self.push_connections(alloc, &mut text)?;
-        Ok(Bytes::of(text))
-    }
-
     /// Appends the lines of each connection, by rising number.
     fn push_connections(&self, alloc: Global, text: &mut Vec<u8>) -> Result<(), NoMemory>
         ensures { OnOk result ((w : List AnyStep) → StandsFor w self.now → text.new.items ≡ text.old.items ++ connections_text self.now w) }
@@ -125,7 +112,7 @@ fn push_reply_line(
 /// Appends the lines of a connection for which the place is held.
 fn push_seat(alloc: Global, text: &mut Vec<u8>, number: u64, seat: &Seat) -> Result<(), NoMemory>
     requires kept { is_over_at seat.now.place.live.processor.stage ≡ false }
-    ensures { OnOk result ((s : Settings) (T : Trace) → Keeps s T (seat_parts seat.now) → text.new.items ≡ text.old.items ++ trace_text number T) }
+    ensures { OnOk result ((s : Terms) (T : Trace) → Keeps s T (seat_parts seat.now) → text.new.items ≡ text.old.items ++ trace_text number T) }
 {
     let tally = seat.tally();
     let charts = seat_charts(alloc, seat)?;

@@ -16,6 +16,7 @@ returns c T lives =
       account = c.leave-share.result.1;
       tells = c.leave-share.ensures.tells;
       vacant = c.leave-share.ensures.vacant;
+      visits = c.leave-share.ensures.visits;
       left = λ w who. c.leave.ensures ∙ ap (after_leave c.args.latch.now) (share_is c.args.seat.now.place.who w c.leave-share.result.0 who c.leave-share.ensures.share);
       put_down = c.in-Ok.ensures.updates.0;
     })

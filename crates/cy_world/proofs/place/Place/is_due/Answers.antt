@@ -1,5 +1,5 @@
 -- What is left to show of `Place::is_due`.
-use Rattle.std.proofs.Common.{◌≡◌, not, ◌&&◌, Option, None, Some, ap, sym, ◌∙◌, subst, arith}
+use Rattle.std.proofs.Common.{◌≡◌, not, ◌&&◌, Option, None, Some, refl, ap, sym, ◌∙◌, subst, arith}
 use Rattle.cy_model.specs.Settling.{rested}
 use Rattle.cy_proc.specs.LineChanges.{is_due, work_of}
 use Rattle.cy_proc.specs.Processors.{is_open_at, is_over_at}
@@ -7,6 +7,7 @@ use Rattle.cy_world.specs.Places.{Lives, PlaceParts, line_at, stands_due}
 use Rattle.cy_world.specs.declared.place.Idle.{Idle}
 use Rattle.cy_world.proofs.Lives.{open_lives}
 use Rattle.cy_world.proofs.Places.{due_is, idle_closed, idle_place, idle_rests, live_of, seated_open, work_at_rest}
+use Rattle.cy_world.proofs.Visits.{counts_same, idle_rest_heads}
 use Rattle.cy_world.proofs.place.Place.is_due.Goals as goal
 
 pub returns-in_default-clause-rests : goal.returns-in_default-clause-rests
@@ -52,3 +53,9 @@ returns-clause-line c =
       );
       moment = c.settle-standing.ensures.moment ∙ sym (ap (λ (o : Option Idle). (line_at o c.self.inside.slot).moment) is);
     })
+
+pub returns-clause-counts : goal.returns-clause-counts
+returns-clause-counts c =
+    rw (← c.self.view_is) (counts_same _ _ refl
+    (idle_rest_heads c.self.inside.limits c.self.inside.slot c.self.inside.idle c.in-Some.idle c.self.inside.charts.items c.settle-standing.new.self (sym c.take.ensures.value ∙ c.in-Some.is) c.self.invariant.alive _
+    c.settle-standing.ensures.rests))

@@ -1,5 +1,5 @@
 -- What is left to show of `Place::reserve`: the ring of the input holds no more heads than bytes.
-use Rattle.std.proofs.Common.{◌≡◌, ◌≤◌, ◌+◌, ◌-◌, ℕ, OnOk, Result, Ok, Err, ap, arith}
+use Rattle.std.proofs.Common.{◌+◌, ◌-◌, ℕ, OnOk, Result, Ok, Err, ap, arith}
 use Rattle.cy_event.specs.declared.no_memory.NoMemory.{NoMemory}
 use Rattle.cy_rings.specs.declared.kit.TheConstants.{IN_CAPACITY}
 use Rattle.cy_world.specs.Places.{PlaceParts, taken_at_most}

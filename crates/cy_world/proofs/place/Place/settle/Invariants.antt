@@ -3,7 +3,7 @@ use Rattle.std.proofs.Common.{◌≡◌, false}
 use Rattle.cy_model.specs.Marks.{Trace}
 use Rattle.cy_proc.specs.LineChanges.{work_of}
 use Rattle.cy_proc.specs.Processors.{is_over_at}
-use Rattle.cy_world.specs.Places.{HasRoom, Lives}
+use Rattle.cy_world.specs.Places.{CountsHeads, HasRoom, Lives}
 use Rattle.cy_world.proofs.Lives.{SettlesTo}
 use Rattle.cy_world.proofs.place.Place.settle.Given as goal
 
@@ -15,6 +15,7 @@ invariant-loop-self l = record {
   kept : is_over_at l.self.live.processor.stage ≡ false;
   who : l.self.who ≡ l.fn.self.who;
   room : HasRoom 0 l.self;
+  counts : CountsHeads l.fn.self l.self;
 }
 
 abbrev pub decreases-loop-self : goal.decreases-loop-self

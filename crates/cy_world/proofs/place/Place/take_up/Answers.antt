@@ -1,11 +1,12 @@
 -- What is left to show of `Place::take_up`.
-use Rattle.std.proofs.Common.{length, Option, vec_capacity, refl, ap, sym, ◌∙◌, subst, arith}
+use Rattle.std.proofs.Common.{◌+◌, length, Option, vec_capacity, refl, ap, sym, ◌∙◌, subst, arith}
 use Rattle.cy_proc.specs.LineChanges.{is_due, work_of}
 use Rattle.cy_world.specs.Lives.{SettlesOne}
-use Rattle.cy_world.specs.Places.{LiveParts, PlaceParts, guest_who, who_at}
+use Rattle.cy_world.specs.Places.{LiveParts, PlaceParts, guest_who, heads_of, who_at}
 use Rattle.cy_world.specs.declared.place.Idle.{Idle}
 use Rattle.cy_world.proofs.Places.{live_of}
 use Rattle.cy_world.proofs.TakingUp.{Enters, enters, room_less}
+use Rattle.cy_world.proofs.Visits.{counts_one, one_head_more}
 use Rattle.cy_world.proofs.place.Place.take_up.Goals as goal
 
 facts_then : (c : goal.Then-is_over) → Enters c.args.rules.now c.self.inside.limits c.self.inside.slot c.open-done.new.self c.self.inside.spare c.self.inside.idle c.take.new.self c.self.inside.charts.items (vec_capacity c.self.inside.charts) (record { line = c.in-Some.field-0.line; share = c.in-Some-guest.field-0.share; number = c.in-Some-guest.field-0.number })
@@ -113,3 +114,28 @@ returns-else-is_over-clause-less c =
       (facts_else c).less,
       ap (λ (p : LiveParts). work_of p.line) (ap (λ (p : PlaceParts). p.live) c.self.view_is ∙ c.renew_slot.ensures.live),
     )
+
+pub returns-then-is_over-clause-counts : goal.returns-then-is_over-clause-counts
+returns-then-is_over-clause-counts c =
+    let e = facts_end c in
+    counts_one c.args.self.now c.finish-then-is_over.new.self c.self.inside.slot
+    (λ free. ap (λ (p : PlaceParts). p.slot) c.self.view_is ∙ c.renew_slot.ensures.slot free)
+    (
+    ap heads_of c.finish-then-is_over.ensures.line
+    ∙ one_head_more c.args.rules.now _ _ c.self.invariant.alive e.takes
+    ∙ ap (λ (p : PlaceParts). heads_of p.live.line + 1) c.self.view_is
+    ∙ ap (λ (p : LiveParts). heads_of p.line + 1) c.renew_slot.ensures.live
+    )
+    (c.finish-then-is_over.ensures.visits ∙ e.visits)
+
+pub returns-else-is_over-clause-counts : goal.returns-else-is_over-clause-counts
+returns-else-is_over-clause-counts c =
+    let e = facts_else c in
+    counts_one c.args.self.now _ c.self.inside.slot
+    (λ free. ap (λ (p : PlaceParts). p.slot) c.self.view_is ∙ c.renew_slot.ensures.slot free)
+    (
+    one_head_more c.args.rules.now _ _ c.self.invariant.alive e.takes
+    ∙ ap (λ (p : PlaceParts). heads_of p.live.line + 1) c.self.view_is
+    ∙ ap (λ (p : LiveParts). heads_of p.line + 1) c.renew_slot.ensures.live
+    )
+    e.visits

@@ -4,7 +4,8 @@ use Rattle.cy_event.specs.declared.steps.Step.TheVariants as step
 use Rattle.cy_latch.specs.Numbers.{after_leave}
 use Rattle.cy_latch.specs.Runs.{IsTurn, entered}
 use Rattle.cy_world.specs.Worlds.{WorldParts, find_in}
-use Rattle.cy_world.proofs.Owned.{admit_stands, is_free, left_again, same_again, vacant_still}
+use Rattle.cy_world.proofs.Owned.{admit_stands, as_before, is_free, left_again, same_again, vacant_still}
+use Rattle.cy_world.proofs.Visits.{counts_behind}
 use Rattle.cy_world.proofs.world.World.admit.Goals as goal
 
 pub book_seat-requires : goal.book_seat-requires
@@ -22,8 +23,8 @@ invariant_of-self-in_default c =
       same_again c.self.invariant.0 _ c.number-place.result c.index_mut-seat.result.now c.book_seat.new.seat c.leave.new.self c.book_seat.new.book.entries c.self.invariant.1 free.there c.book_seat.ensures.same again c.in_default.ensures.unbooked,
     )
 
-pub returns-in_default-clause-unchanged : goal.returns-in_default-clause-unchanged
-returns-in_default-clause-unchanged c =
+pub returns-in_default-clause-stands : goal.returns-in_default-clause-stands
+returns-in_default-clause-stands c =
     let turn = subst (λ (n : ℕ). IsTurn c.self.inside.latch (entered n) c.enter.new.self) (sym c.number-place.ensures) c.in-Entered.ensures.turn in
     let free = is_free c.self.invariant.0 _ c.number-place.result c.index_mut-seat.result.now c.self.invariant.1 turn.0 turn.1 c.index_mut-seat.ensures.value in
     let again = c.leave.ensures ∙ ap (after_leave c.enter.new.self) (sym c.number-place.ensures) ∙ left_again c.self.inside.latch c.enter.new.self c.number-place.result turn.0 turn.1 turn.2 in
@@ -43,7 +44,7 @@ invariant_of-self-2 c =
     let who = c.admit.ensures.who ∙ ap (λ (n : ℕ). Some (record { share = n; number = c.args.number })) (sym c.number-place.ensures) in (
       step.Admit c.args.number ∷ c.self.invariant.0,
       (admit_stands c.self.invariant.0 c.args.number c.number-place.result _ c.index_mut-seat.result.now c.admit.new.self c.retire_if_gone.new.seat c.enter.new.self c.retire_if_gone.new.latch c.book_seat.new.book.entries c.retire_if_gone.new.book.entries
-          c.self.invariant.1 unknown turn.0 turn.1 turn.2 free.there who c.admit.ensures.keeps c.in-Ok.ensures.booked c.retire_if_gone.ensures).stands,
+          c.self.invariant.1 unknown turn.0 turn.1 turn.2 free.there who c.admit.ensures.keeps (counts_behind _ _ _ c.book_seat.ensures.same.place c.admit.ensures.counts) c.admit.ensures.slot c.in-Ok.ensures.booked c.retire_if_gone.ensures).stands,
     )
 
 pub returns-clause-takes : goal.returns-clause-takes
@@ -54,4 +55,11 @@ returns-clause-takes c =
     let who = c.admit.ensures.who ∙ ap (λ (n : ℕ). Some (record { share = n; number = c.args.number })) (sym c.number-place.ensures) in
     rw (← c.self.view_is) (λ w stands.
     admit_stands w c.args.number c.number-place.result _ c.index_mut-seat.result.now c.admit.new.self c.retire_if_gone.new.seat c.enter.new.self c.retire_if_gone.new.latch c.book_seat.new.book.entries c.retire_if_gone.new.book.entries
-    stands unknown turn.0 turn.1 turn.2 free.there who c.admit.ensures.keeps c.in-Ok.ensures.booked c.retire_if_gone.ensures)
+    stands unknown turn.0 turn.1 turn.2 free.there who c.admit.ensures.keeps (counts_behind _ _ _ c.book_seat.ensures.same.place c.admit.ensures.counts) c.admit.ensures.slot c.in-Ok.ensures.booked c.retire_if_gone.ensures)
+
+pub returns-in_default-clause-unchanged : goal.returns-in_default-clause-unchanged
+returns-in_default-clause-unchanged c =
+    let turn = subst (λ (n : ℕ). IsTurn c.self.inside.latch (entered n) c.enter.new.self) (sym c.number-place.ensures) c.in-Entered.ensures.turn in
+    let free = is_free c.self.invariant.0 _ c.number-place.result c.index_mut-seat.result.now c.self.invariant.1 turn.0 turn.1 c.index_mut-seat.ensures.value in
+    let again = c.leave.ensures ∙ ap (after_leave c.enter.new.self) (sym c.number-place.ensures) ∙ left_again c.self.inside.latch c.enter.new.self c.number-place.result turn.0 turn.1 turn.2 in
+    rw (← c.self.view_is) (as_before _ c.number-place.result c.index_mut-seat.result.now c.book_seat.new.seat c.leave.new.self c.book_seat.new.book.entries free.there c.book_seat.ensures.same again c.in_default.ensures.unbooked)

@@ -10,8 +10,8 @@ returns-in-Err-clause-fault c =
 
 pub invariant_of-result : goal.invariant_of-result
 invariant_of-result c =
-    ([], begins_as _ c.in-Ok-seats.seats.items c.in-Ok-new.latch c.new-3.result.entries c.in-Ok-seats.ensures.vacant c.in-Ok-seats.ensures.count c.in-Ok-new.ensures c.new-3.ensures.empty)
+    ([], begins_as _ c.in-Ok-seats.seats.items c.in-Ok-new.latch c.new-3.result.entries c.in-Ok-seats.ensures.vacant c.in-Ok-seats.ensures.unvisited c.in-Ok-seats.ensures.count c.in-Ok-new.ensures c.new-3.ensures.empty)
 
 pub returns-clause-stands : goal.returns-clause-stands
 returns-clause-stands c =
-    begins_as _ c.in-Ok-seats.seats.items c.in-Ok-new.latch c.new-3.result.entries c.in-Ok-seats.ensures.vacant c.in-Ok-seats.ensures.count c.in-Ok-new.ensures c.new-3.ensures.empty
+    begins_as _ c.in-Ok-seats.seats.items c.in-Ok-new.latch c.new-3.result.entries c.in-Ok-seats.ensures.vacant c.in-Ok-seats.ensures.unvisited c.in-Ok-seats.ensures.count c.in-Ok-new.ensures c.new-3.ensures.empty

@@ -5,7 +5,7 @@ use cy_map::Mapper;
 
 /// The limits of the connections, and which component serves which path.
 #[derive(Drop)]
-pub struct Settings {
+pub struct Terms {
     pub limits: Limits,
     pub rules: Mapper,
 }
