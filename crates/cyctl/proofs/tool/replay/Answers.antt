@@ -8,9 +8,9 @@ use Rattle.cyctl.proofs.ReadSteps.{script_has_no_clock, script_is_valid}
 use Rattle.cyctl.proofs.tool.replay.Goals as goal
 
 pub run-requires-clause-valid : goal.run-requires-clause-valid
-run-requires-clause-valid c =
-    subst (λ (steps : List Step). IsValid (reverse steps)) (sym c.as_slice-2.ensures) (script_is_valid c.in-Ok.script c.in-Ok.ensures.form)
+run-requires-clause-valid g c =
+    subst (λ (steps : List Step). IsValid (reverse steps)) (sym c.as_slice-steps.ensures) (script_is_valid c.in-Ok.script c.in-Ok.ensures.form)
 
 pub run-requires-clause-clock : goal.run-requires-clause-clock
-run-requires-clause-clock c =
-    subst (λ (steps : List Step). list_any is_clock steps ≡ false) (sym c.as_slice-2.ensures) (script_has_no_clock c.in-Ok.script c.in-Ok.ensures.form)
+run-requires-clause-clock g c =
+    subst (λ (steps : List Step). list_any is_clock steps ≡ false) (sym c.as_slice-steps.ensures) (script_has_no_clock c.in-Ok.script c.in-Ok.ensures.form)
