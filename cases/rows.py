@@ -14,8 +14,8 @@ from pathlib import Path
 ROOT = Path(__file__).resolve().parent.parent
 TRACES = ROOT / "cases" / "traces"
 PROOFS = ROOT / "crates" / "cy_rows" / "proofs"
-# how many traces stand in a file
-EACH = 6
+# how many lines a file has at most, where its traces are more than one
+LONGEST = 390
 ESCAPES = {"n": 10, "r": 13, "t": 9, '"': 34, "\\": 92}
 SIDES = {"in": "input_side", "out": "output_side"}
 CALLS = ("Start CompleteOwn CompleteOther DispatchOwn DispatchOther Timeout Fault Fail Run Return").split()
@@ -352,13 +352,30 @@ def header(text):
     return "\n".join(lines) + "\n"
 
 
+def file_of(rows):
+    """The text of a file with these rows."""
+    text = "\n".join(rows)
+    return header(text) + "\n" + text
+
+
+def packed(rows):
+    """The rows by files, in their order."""
+    some = []
+    for text in rows:
+        if some and file_of([*some, text]).count("\n") > LONGEST:
+            yield some
+            some = []
+        some.append(text)
+    if some:
+        yield some
+
+
 def made():
     """The text of each file of rows, by its path."""
     traces = sorted(TRACES.glob("trace_*.json"))
-    for first in range(0, len(traces), EACH):
-        rows = [row(int(path.stem[6:]), json.loads(path.read_text("utf-8"))) for path in traces[first:first + EACH]]
-        text = "\n".join(rows)
-        yield PROOFS / f"Traces{first // EACH:02}Rows.antt", header(text) + "\n" + text
+    rows = [row(int(path.stem[6:]), json.loads(path.read_text("utf-8"))) for path in traces]
+    for number, some in enumerate(packed(rows)):
+        yield PROOFS / f"Traces{number:02}Rows.antt", file_of(some)
 
 
 def main(write):

@@ -117,3 +117,38 @@ heads_are_awaited max_head max_fields bytes = (
   awaited_by_front max_head max_fields bytes (front_length bytes),
   λ x. ap (head_from_front max_head max_fields bytes) x.0 ∙ cond-false _ _ _ (lt-leb _ _ x.1),
 )
+
+-- ---- room for few fields is enough, where the answer isn't that the head is malformed
+
+few_by_tests : (few many m : ℕ) (k : Head) (t : Bool) → few ≤ many → (leb (length k.fields) few && host_fits k) ≡ t
+    → (cond t (found m k) malformed ≡ malformed → ⊥)
+    → cond (leb (length k.fields) many && host_fits k) (found m k) malformed ≡ cond t (found m k) malformed
+few_by_tests few many m k true more tests right =
+    let both : (leb (length k.fields) few ≡ true) × (host_fits k ≡ true) = and_parts _ _ tests in
+    let within : length k.fields ≤ few = leb-true _ _ both.0 in
+    let still : length k.fields ≤ many = omega arith in
+    cond-true _ _ _ (and_from _ _ (le-leb _ _ still) both.1)
+few_by_tests few many m k false more tests right = absurd (right refl)
+
+few_by_head : (few many m : ℕ) (head : Option Head) → few ≤ many → (front_from few m head ≡ malformed → ⊥)
+    → front_from many m head ≡ front_from few m head
+few_by_head few many m None more right = refl
+few_by_head few many m (Some k) more right = few_by_tests few many m k _ more refl right
+
+few_by_limit : (few many m : ℕ) (head : Option Head) (t : Bool) → few ≤ many
+    → (cond t (front_from few m head) malformed ≡ malformed → ⊥)
+    → cond t (front_from many m head) malformed ≡ cond t (front_from few m head) malformed
+few_by_limit few many m head true more right = few_by_head few many m head more right
+few_by_limit few many m head false more right = refl
+
+few_by_front : (max_head few many : ℕ) (bytes : List ℕ) (front : Option ℕ) → few ≤ many
+    → (head_from_front max_head few bytes front ≡ malformed → ⊥)
+    → head_from_front max_head many bytes front ≡ head_from_front max_head few bytes front
+few_by_front max_head few many bytes None more right = refl
+few_by_front max_head few many bytes (Some m) more right =
+    few_by_limit few many m (whole_head (take m bytes)) (leb m max_head) more right
+
+pub few_are_enough : (max_head few many : ℕ) (bytes : List ℕ) → few ≤ many → (head_of max_head few bytes ≡ malformed → ⊥)
+    → head_of max_head many bytes ≡ head_of max_head few bytes
+unfolding head_of
+few_are_enough max_head few many bytes more right = few_by_front max_head few many bytes (front_length bytes) more right

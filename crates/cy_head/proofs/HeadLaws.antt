@@ -9,7 +9,7 @@ use Rattle.httparse.proofs.GrammarLemmas.{print_request-append}
 use Rattle.cy_event.specs.Heads.{Field, Head, is_value_byte, is_empty, cut_at, parts_at, raw_lines, bare, is_empty_line, field_from, field_of, with_field, fields_of, minor_of, head_from, head_of_words, head_of_lines, skip_empty_lines, whole_head}
 use Rattle.cy_event.proofs.Cuts.{join-cut_at, join-parts_at}
 use Rattle.cy_head.specs.HeadGrammar.{field_of_line, head_of_tree}
-use Rattle.cy_head.proofs.HeadLines.{some_is, none_is_not, line_end, end_of, bare_ends, All-list_all, nil_from_test}
+use Rattle.cy_head.proofs.HeadLines.{some_is, none_is_not, end_of, bare_ends, All-list_all, nil_from_test}
 use Rattle.cy_head.proofs.HeadPrinted.{trimmed_is, IsToken-is_name, IsTarget, IsTarget-is_target, field_with, section_line, head_with, regroup_start}
 
 -- ---- what is read is printed

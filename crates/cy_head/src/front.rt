@@ -23,6 +23,9 @@ pub enum Front {
     Bad,
 }
 
+/// Most heads have fewer fields than this, for which little room has to be made ready.
+const FEW_FIELDS: usize = 32;
+
 /// Reads the head at the front of the bytes (RFC 9112, sections 2, 3 and 5). It takes no memory.
 ///
 /// The front is everything up to the first empty line behind a line that isn't empty; lines end at LF, and one CR
@@ -38,9 +41,25 @@ pub fn head_front(bytes: &[u8], limits: &Limits, into: &mut RequestHead) -> Fron
     ensures front { result ≡ answer_to (head_of limits.now.max_head limits.now.max_fields bytes.now) }
     ensures parts { into.new ≡ filled_by (head_of limits.now.max_head limits.now.max_fields bytes.now) into.old }
 {
-    let mut spans = [EMPTY_HEADER_SPAN; FIELD_ROOM];
-    let spans = &mut spans[..limits.max_fields as usize];
-    match find_spans(bytes, limits.max_head, spans) {
+    let mut few = [EMPTY_HEADER_SPAN; FEW_FIELDS];
+    let room = FEW_FIELDS.min(limits.max_fields as usize);
+    match read_front(bytes, limits.max_head, &mut few[..room], into) {
+        Front::Bad => {
+            let mut spans = [EMPTY_HEADER_SPAN; FIELD_ROOM];
+            read_front(bytes, limits.max_head, &mut spans[..limits.max_fields as usize], into)
+        }
+        front => front,
+    }
+}
+
+/// Reads the head at the front of the bytes, where it has no more fields than there are spans.
+fn read_front(bytes: &[u8], max_head: u32, spans: &mut [HeaderSpan], into: &mut RequestHead) -> Front
+    requires head_room { max_head ≤ HEAD_ROOM }
+    requires field_room { length spans.old ≤ FIELD_ROOM }
+    ensures front { result ≡ answer_to (head_of max_head (length spans.old) bytes.now) }
+    ensures parts { into.new ≡ filled_by (head_of max_head (length spans.old) bytes.now) into.old }
+{
+    match find_spans(bytes, max_head, spans) {
         FrontSpans::Wait => Front::Wait,
         FrontSpans::Bad => Front::Bad,
         FrontSpans::Head(head) => {

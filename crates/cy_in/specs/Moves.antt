@@ -10,4 +10,4 @@ IsContentWithin m = m.content ≤ m.raw
 pub record MovesOn (old new : BodyMark) (bytes : ℕ) : Type 0 where
   pub later : old.raw ≤ new.raw
   pub most : new.raw ≤ old.raw + bytes
-  pub sound : new.content ≤ new.raw
+  pub content : new.content ≤ new.raw

@@ -50,7 +50,7 @@ fn run_stage(stage: BodyStage, run: u64) -> BodyStage
 /// The mark behind a run of content.
 fn run_after(mark: BodyMark, run: usize) -> BodyMark
     requires raw { mark.raw + run ≤ GREATEST_RAW }
-    requires sound { IsContentWithin mark }
+    requires content { IsContentWithin mark }
     ensures mark { result ≡ run_after mark run }
     ensures moves { MovesOn mark result run }
 {
@@ -67,7 +67,7 @@ fn run_after(mark: BodyMark, run: usize) -> BodyMark
 #[inline(always)]
 fn scan_byte(max_trailer: u32, mark: BodyMark, byte: u8) -> BodyMark
     requires raw { mark.raw < GREATEST_RAW }
-    requires sound { IsContentWithin mark }
+    requires content { IsContentWithin mark }
     ensures mark { result ≡ scan_byte max_trailer mark byte }
     ensures moves { MovesOn mark result 1 }
 {
@@ -92,7 +92,7 @@ fn scan_byte(max_trailer: u32, mark: BodyMark, byte: u8) -> BodyMark
 fn step(max_trailer: u32, mark: BodyMark, rest: &[u8]) -> (BodyMark, usize)
     requires some { 1 ≤ length rest.now }
     requires raw { mark.raw + length rest.now ≤ GREATEST_RAW }
-    requires sound { IsContentWithin mark }
+    requires content { IsContentWithin mark }
     ensures passes { 1 ≤ result.1 }
     ensures within { result.1 ≤ length rest.now }
     ensures mark { scan_bytes max_trailer mark rest.now ≡ scan_bytes max_trailer result.0 (drop result.1 rest.now) }
@@ -109,7 +109,7 @@ fn step(max_trailer: u32, mark: BodyMark, rest: &[u8]) -> (BodyMark, usize)
 /// The mark behind the bytes.
 pub fn scan_bytes(max_trailer: u32, from: BodyMark, bytes: &[u8]) -> BodyMark
     requires raw { from.raw + length bytes.now ≤ GREATEST_RAW }
-    requires sound { IsContentWithin from }
+    requires content { IsContentWithin from }
     ensures mark { result ≡ scan_bytes max_trailer from bytes.now }
     ensures moves { MovesOn from result (length bytes.now) }
 {
@@ -133,7 +133,7 @@ pub fn give_bytes(
     into: &mut [u8],
 ) -> (BodyMark, usize)
     requires raw { from.raw + length bytes.now ≤ GREATEST_RAW }
-    requires sound { IsContentWithin from }
+    requires content { IsContentWithin from }
     requires room { most ≤ length into.old }
     ensures mark { result.0 ≡ (give_bytes max_trailer most from bytes.now).mark }
     ensures given { into.new ≡ (give_bytes max_trailer most from bytes.now).content ++ drop result.1 into.old }

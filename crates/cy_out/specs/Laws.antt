@@ -1,8 +1,8 @@
 -- Laws of answers. Each is the contract of a public function without a body.
 use Rattle.std.specs.Prelude.{◌≡◌, ◌↔◌, ℕ, ◌+◌, ◌^◌, ◌<◌, ◌≤◌, ◌||◌, nat_lt, if◌then◌else◌, Bool, true, false, List, [], ◌∷◌, ◌++◌, length, take, Option, None, Some, is_none, unwrap_or}
-use Rattle.std.specs.List.{All, concat, flat_map, list_all}
+use Rattle.std.specs.List.{All, concat, list_all}
 use Rattle.cy_event.specs.Answers.{Answer, Connection, answer_text, close, content_buffer, continue_text, head_of_answer, head_text, keep_alive, silent, takes}
-use Rattle.cy_event.specs.AnswerModes.{Asked, Mode, Shape, chunked, connection_of, counted, framing_lines, has_no_content, head_of_shape, last_text, mode_of, piece_text, shape_of, until_close, void}
+use Rattle.cy_event.specs.AnswerModes.{Asked, Mode, Shape, chunked, connection_of, counted, framing_lines, has_no_content, head_of_shape, mode_of, shape_of, until_close, void}
 use Rattle.cy_event.specs.Answering.{Answering, Sending, after_finish, beginning, can_cut, commit_by, cut_room, is_buffer_full, is_short, length_reply, output_limit, passes_length, push_byte, push_bytes, set_length_of}
 use Rattle.cy_event.specs.AnswerBytes.{answer_bytes, bytes_so_far, content_text, known_length}
 use Rattle.cy_event.specs.BodyGrammar.{IsBody}

@@ -167,6 +167,9 @@ impl Place {
         ensures pushed { to.new.items ≡ to.old.items ++ drop first self.old.live.line.unsent }
         ensures same { self.new ≡ self.old }
     {
+        if self.unsent_len() <= first {
+            return;
+        }
         let Some(mut idle) = self.idle.take() else {
             let tenancy = self.slot.tenancy();
             self.slot.push_unsent(tenancy, first, to);
@@ -228,18 +231,30 @@ impl Place {
         ensures same { IsSameButRoom self.old self.new }
     {
         if self.slot.tenancy() > WORN && self.spare.is_none() {
-            self.spare = Some(Slot::new(self.alloc, &self.limits)?);
+            return self.make_spare();
         }
         Ok(())
     }
 
-    /// Gets room for so many further charts.
+    /// Makes a new slot. It stands by itself since its bytes lie on the stack meanwhile, and it is hardly ever called.
+    fn make_spare(&mut self) -> Result<(), NoMemory>
+        ensures left { OnOk result (2 * IN_CAPACITY + 8 ≤ self.new.tenants_left) }
+        ensures same { IsSameButRoom self.old self.new }
+    {
+        self.spare = Some(Slot::new(self.alloc, &self.limits)?);
+        Ok(())
+    }
+
+    /// Gets room for so many further charts. Where there is too little it gets twice as much, since the next entries need
+    /// some as well.
     fn get_chart_room(&mut self, further: usize) -> Result<(), NoMemory>
         ensures room { OnOk result (length self.old.live.charts + further ≤ self.new.chart_room) }
         ensures same { IsSameButRoom self.old self.new }
         ensures tenants { self.new.tenants_left ≡ self.old.tenants_left }
     {
-        self.charts.reserve(further)?;
+        if self.charts.capacity() - self.charts.len() < further {
+            self.charts.reserve(further.saturating_mul(2))?;
+        }
         Ok(())
     }
 

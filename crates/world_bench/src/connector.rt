@@ -36,12 +36,13 @@ fn may_take(world: &World, step: &Step) -> bool
     }
 }
 
-/// Takes a step.
-fn take(alloc: Global, world: &mut World, step: &Step) -> Result<Reply> {
+/// Takes a step, and answers its reply: none where the connector doesn't take it, or memory ran out. An error with a
+/// text would be longer than a step's own answer, and what is measured is the step.
+fn take(alloc: Global, world: &mut World, step: &Step) -> Option<Reply> {
     if !may_take(world, step) {
-        bail!("a step that can't be taken");
+        return None;
     }
-    Ok(world.step(alloc, step)?.reply)
+    Some(world.step(alloc, step).ok()?.reply)
 }
 
 /// Component 0 serves every path.
@@ -79,7 +80,7 @@ impl Connector {
     }
 
     /// A new connection asks to be admitted.
-    fn admit(&mut self) -> Result<Reply> {
+    fn admit(&mut self) -> Option<Reply> {
         let number = self.next;
         self.next = number.saturating_add(1);
         take(self.alloc, &mut self.world, &Step::Admit(number))
@@ -87,47 +88,47 @@ impl Connector {
 
     /// Takes the step at this place of a request of a connection, and answers whether it got the
     /// reply that it should.
-    fn serve(&mut self, place: usize, number: u64) -> Result<bool> {
+    fn serve(&mut self, place: usize, number: u64) -> bool {
         let (step, wanted) = self.request.step(place, number);
-        Ok(take(self.alloc, &mut self.world, step)? == wanted)
+        take(self.alloc, &mut self.world, step) == Some(wanted)
     }
 
     /// A whole request of a connection, and whether each step got the reply that it should.
-    fn serve_whole(&mut self, number: u64) -> Result<bool> {
+    fn serve_whole(&mut self, number: u64) -> bool {
         let mut is_right = true;
         for place in 0..STEPS {
-            is_right = self.serve(place, number)? && is_right;
+            is_right = self.serve(place, number) && is_right;
         }
-        Ok(is_right)
+        is_right
     }
 
     /// New connections are admitted, and answers how many were.
-    pub fn admit_some(&mut self, times: u64) -> Result<u64> {
+    pub fn admit_some(&mut self, times: u64) -> u64 {
         let mut done = 0u64;
         for _ in 0..times {
-            if self.admit()? == Reply::Entered {
+            if self.admit() == Some(Reply::Entered) {
                 done = done.saturating_add(1);
             }
         }
-        Ok(done)
+        done
     }
 
     /// New connections are refused, and answers how many were.
-    pub fn refuse_some(&mut self, times: u64) -> Result<u64> {
+    pub fn refuse_some(&mut self, times: u64) -> u64 {
         let mut done = 0u64;
         for _ in 0..times {
-            if self.admit()? != Reply::Entered {
+            if matches!(self.admit(), Some(Reply::Full(_))) {
                 done = done.saturating_add(1);
             }
         }
-        Ok(done)
+        done
     }
 
     /// So many new connections are admitted, and each has a request.
     pub fn fill(&mut self, count: u32) -> Result<()> {
         for _ in 0..count {
             let number = self.next;
-            if self.admit()? != Reply::Entered || !self.serve_whole(number)? {
+            if self.admit() != Some(Reply::Entered) || !self.serve_whole(number) {
                 bail!("a connection was not served");
             }
         }
@@ -145,7 +146,7 @@ impl Connector {
         let first = self.first();
         for turn in 0..self.counted() {
             for place in 0..turn as usize % STEPS {
-                if !self.serve(place, first.saturating_add(turn))? {
+                if !self.serve(place, first.saturating_add(turn)) {
                     bail!("a connection was not served");
                 }
             }
@@ -155,12 +156,12 @@ impl Connector {
 
     /// So many steps of those that were spread, by turns: each takes the next step of its request,
     /// and then each the one behind it.
-    pub fn step_by_turns(&mut self, times: u64) -> Result<u64> {
+    pub fn step_by_turns(&mut self, times: u64) -> u64 {
         let (first, count) = (self.first(), self.counted());
         let (mut done, mut turn, mut round) = (0u64, 0u64, 0usize);
         for _ in 0..times {
             let place = round.saturating_add(turn as usize % STEPS);
-            if self.serve(place, first.saturating_add(turn))? {
+            if self.serve(place, first.saturating_add(turn)) {
                 done = done.saturating_add(1);
             }
             turn = turn.saturating_add(1);
@@ -169,15 +170,15 @@ impl Connector {
                 round = round.saturating_add(1) % STEPS;
             }
         }
-        Ok(done)
+        done
     }
 
     /// So many whole requests of those that were filled in, by turns.
-    pub fn get_by_turns(&mut self, times: u64) -> Result<u64> {
+    pub fn get_by_turns(&mut self, times: u64) -> u64 {
         let (first, count) = (self.first(), self.counted());
         let (mut done, mut turn) = (0u64, 0u64);
         for _ in 0..times {
-            if self.serve_whole(first.saturating_add(turn))? {
+            if self.serve_whole(first.saturating_add(turn)) {
                 done = done.saturating_add(1);
             }
             turn = turn.saturating_add(1);
@@ -185,39 +186,39 @@ impl Connector {
                 turn = 0;
             }
         }
-        Ok(done)
+        done
     }
 
     /// A new connection has one request, and is gone.
-    fn pass(&mut self) -> Result<bool> {
+    fn pass(&mut self) -> bool {
         let number = self.next;
-        let mut is_right = self.admit()? == Reply::Entered && self.serve_whole(number)?;
+        let mut is_right = self.admit() == Some(Reply::Entered) && self.serve_whole(number);
         let end = end(self.alloc, number);
-        is_right = take(self.alloc, &mut self.world, &end)? == Reply::Done && is_right;
-        Ok(is_right && self.world.cause(number).is_some())
+        is_right = take(self.alloc, &mut self.world, &end) == Some(Reply::Done) && is_right;
+        is_right && self.world.cause(number).is_some()
     }
 
     /// So many connections, one behind the other.
-    pub fn pass_some(&mut self, times: u64) -> Result<u64> {
+    pub fn pass_some(&mut self, times: u64) -> u64 {
         let mut done = 0u64;
         for _ in 0..times {
-            if self.pass()? {
+            if self.pass() {
                 done = done.saturating_add(1);
             }
         }
-        Ok(done)
+        done
     }
 
     /// New connections are admitted, and have a request whose callback runs.
-    pub fn sit_some(&mut self, times: u64) -> Result<u64> {
+    pub fn sit_some(&mut self, times: u64) -> u64 {
         let mut done = 0u64;
         for _ in 0..times {
             let number = self.next;
-            let is_in = self.admit()? == Reply::Entered;
-            if is_in && self.serve(0, number)? && self.serve(1, number)? {
+            let is_in = self.admit() == Some(Reply::Entered);
+            if is_in && self.serve(0, number) && self.serve(1, number) {
                 done = done.saturating_add(1);
             }
         }
-        Ok(done)
+        done
     }
 }

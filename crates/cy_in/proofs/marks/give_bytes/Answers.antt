@@ -12,7 +12,7 @@ loop-filled-preserved-then-run-gt0 c =
     let size = length-take-le c.run_within-run.result c.loop-filled.rest.now here in
     giving_run c.args.max_trailer c.args.most c.args.from c.args.bytes.now c.args.into.now c.loop-filled.mark c.run_after-mark.result c.loop-filled.rest.now _
     c.loop-filled.filled c.run_within-run.result c.loop-filled.into c.put_at.new.into c.loop-filled.invariant (omega arith) (omega arith) (omega arith) here
-    c.run_after-mark.ensures.mark (rw size at c.put_at.ensures.front) (rw size at c.put_at.ensures.behind) c.run_after-mark.ensures.moves.sound
+    c.run_after-mark.ensures.mark (rw size at c.put_at.ensures.front) (rw size at c.put_at.ensures.behind) c.run_after-mark.ensures.moves.content
     (tail_is c.loop-filled.rest.now c.run_within-run.result)
 
 pub loop-filled-preserved : goal.loop-filled-preserved
@@ -21,5 +21,5 @@ loop-filled-preserved c =
     let none : content_left c.loop-filled.mark.stage ≡ 0 = omega arith in
     giving_byte c.args.max_trailer c.args.most c.args.from c.args.bytes.now c.args.into.now c.loop-filled.mark c.scan_byte-mark.result c.loop-filled.rest.now _
     c.loop-filled.filled c.loop-filled.into c.loop-filled.invariant (omega arith) none some
-    c.scan_byte-mark.ensures.mark (omega arith) (omega arith) c.scan_byte-mark.ensures.moves.sound
+    c.scan_byte-mark.ensures.mark (omega arith) (omega arith) c.scan_byte-mark.ensures.moves.content
     (tail_is c.loop-filled.rest.now 1)
