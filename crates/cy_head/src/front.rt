@@ -46,14 +46,20 @@ pub fn head_front(bytes: &[u8], limits: &Limits, into: &mut RequestHead) -> Fron
     match read_front(bytes, limits.max_head, &mut few[..room], into) {
         Front::Bad => {
             let mut spans = [EMPTY_HEADER_SPAN; FIELD_ROOM];
-            read_front(bytes, limits.max_head, &mut spans[..limits.max_fields as usize], into)
+            let spans = &mut spans[..limits.max_fields as usize];
+            read_front(bytes, limits.max_head, spans, into)
         }
         front => front,
     }
 }
 
 /// Reads the head at the front of the bytes, where it has no more fields than there are spans.
-fn read_front(bytes: &[u8], max_head: u32, spans: &mut [HeaderSpan], into: &mut RequestHead) -> Front
+fn read_front(
+    bytes: &[u8],
+    max_head: u32,
+    spans: &mut [HeaderSpan],
+    into: &mut RequestHead,
+) -> Front
     requires head_room { max_head ≤ HEAD_ROOM }
     requires field_room { length spans.old ≤ FIELD_ROOM }
     ensures front { result ≡ answer_to (head_of max_head (length spans.old) bytes.now) }

@@ -181,14 +181,11 @@ fn heads_at_their_limits(rt: HostRuntime) -> Result<(), Fail> {
     assert_eq!(rt; head_due(&endless, &limits), Due::TooLong);
     assert_eq!(rt; head_due(b"a\n\nb", &limits), Due::Front { length: 3 });
 
-    expect(
-        &rt,
-        &head_of_fields(&rt, 100)?,
-        &limits,
-        &mut head,
-        found(519),
-    );
-    assert_eq!(rt; head.field_count(), 100);
+    for (count, size) in [(32, 179), (33, 184), (100, 519)] {
+        let text = head_of_fields(&rt, count)?;
+        expect(&rt, &text, &limits, &mut head, found(size));
+        assert_eq!(rt; head.field_count(), count);
+    }
     expect(
         &rt,
         &head_of_fields(&rt, 101)?,

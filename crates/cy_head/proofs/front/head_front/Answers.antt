@@ -14,7 +14,7 @@ returns-in_default c =
     let many = c.args.limits.now.max_fields in
     let few : c.min-room.result ≤ many = omega (arith, c.min-room.ensures) in
     let same = few_are_enough c.args.limits.now.max_head _ many c.args.bytes.now (no_more_than c.min-room.result many _ few)
-        (λ bad. c.in_default.not-Bad (c.read_front.ensures.front ∙ ap answer_to bad)) in
+    (λ bad. c.in_default.not-Bad (c.read_front.ensures.front ∙ ap answer_to bad)) in
     record {
       front = c.read_front.ensures.front ∙ ap answer_to (sym same);
       parts = c.read_front.ensures.parts ∙ ap (λ (found : Front). filled_by found c.args.into.now) (sym same);
