@@ -12,16 +12,18 @@ PICTURE = DOCS / "request.svg"
 
 # Who acts from outside; what happens; the words of the code; the crates in which it happens.
 STEPS = [
-    ("socket", "bytes come, in any pieces", "`Line::event` puts them into the in ring", ["cy_rings"]),
+    ("socket", "bytes come, in any pieces", "`World::step`: they go into the in ring", ["cy_world", "cy_rings"]),
     ("", "a head is due where its empty line has come", "`Line::settle` asks `head_due`", ["cy_head"]),
+    ("", "the connection gets the slot of its place", "`Slot::bind`: it is the tenant with the next number", ["cy_world", "cy_slot"]),
     ("", "the head is read into its table, and judged", "`Processor::open`: head, target, framing, rule", ["cy_head", "cy_target", "cy_framing", "cy_map"]),
     ("", "a request begins: its service is owed", "it is open, in DISPATCHED", ["cy_proc", "cy_states"]),
     ("worker", "a worker turns to it, and the service begins", "`Processor::run`: the call Run", ["cy_proc", "cy_states"]),
     ("component", "the component writes content, and returns", "`Processor::act`: the call Return ends it", ["cy_proc", "cy_states"]),
     ("", "its answer is written: head, Date, content", "into the out ring, in one piece", ["cy_proc", "cy_respond"]),
+    ("", "the slot is emptied, for whoever comes next", "`Slot::release`: late calls for its tenant touch nothing", ["cy_world", "cy_slot"]),
     ("socket", "the socket takes bytes, as many as it can", "`Line::event` drops them from the out ring", ["cy_rings"]),
 ]
-JUDGED, BEGUN, ANSWERED, FIRST, LAST = 2, 3, 6, 1, 7
+FIRST, JUDGED, ANSWERED, RELEASED, LAST = 1, 3, 7, 8, 9
 
 LEFT, MIDDLE, RIGHT = 16, 178, 740
 WIDE, TALL, STEP, TOP = 364, 56, 84, 56
@@ -64,12 +66,12 @@ def drawn():
         lines.append(text(side + 12, (low + high) / 2 - 67 + 18 * i, note, 12.5, "small", "start"))
     # the next request
     back = MIDDLE - 24
-    from_y, to_y = y(ANSWERED) + TALL / 2, y(FIRST) + TALL / 2
+    from_y, to_y = y(RELEASED) + TALL / 2, y(FIRST) + TALL / 2
     lines.append('<path class="edge" d="M%g,%g H%g V%g H%g" marker-end="url(#tip)"/>' % (MIDDLE, from_y, back, to_y, MIDDLE - 2))
     for i, note in enumerate(["the next head,", "where it may stay;", "else it closes"]):
-        lines.append(text(back - 10, y(3) + 12 + 18 * i, note, 12.5, "small", "end"))
+        lines.append(text(back - 10, y(4) + 12 + 18 * i, note, 12.5, "small", "end"))
     height = y(len(STEPS) - 1) + TALL + 56
-    lines.append(text(506, height - 24, "A connection is a `Line` and, while a request is open, a `Processor`. Both stand for a trace: see MODEL.", 13, "small"))
+    lines.append(text(506, height - 24, "A connection is a `Line` and, while it sits in a slot, the `Processor` there. Both stand for a trace: see MODEL.", 13, "small"))
     return picture(1012, height, "The life of a request, from its socket to its answer", lines)
 
 
