@@ -28,7 +28,9 @@ fn made_ready(alloc: Global, kind: &str, places: u32) -> Result<Connector> {
             connector.spread()?;
         }
         "beside" => {
-            connector.pass_some(GONE)?;
+            if connector.pass_some(GONE) != GONE {
+                bail!("a connection was not served");
+            }
             connector.fill(places)?;
             connector.spread()?;
         }
