@@ -3,8 +3,9 @@ use super::*;
 use cy_link::{Accepted, Clock, Door, Link, Opened, Polled, Read, Readiness, Ready, Write};
 use std::io::{Read as _, Write as _};
 use std::net::{IpAddr, Ipv4Addr, SocketAddr, TcpStream};
+use std::sync::atomic::{AtomicBool, Ordering};
 use std::test::Fail;
-use std::time::{Clock as SystemClock, Duration};
+use std::time::{Clock as SystemClock, Duration, Instant};
 use std::{io, thread};
 
 const LOOPBACK: IpAddr = IpAddr::V4(Ipv4Addr::LOCALHOST);
@@ -217,7 +218,7 @@ fn a_port_in_use_is_refused(rt: HostRuntime) -> Result<(), Fail> {
 }
 
 #[test]
-fn connections_come_from_each_port(rt: HostRuntime) -> Result<(), Fail> {
+fn connections_come_from_each_port_in_turn(rt: HostRuntime) -> Result<(), Fail> {
     let alloc = rt.alloc();
     let mut ready = MioReady::new(&rt, alloc, 4)?;
     let mut door = MioDoor::beside(rt, alloc, LOOPBACK, &ready)?;
@@ -229,8 +230,14 @@ fn connections_come_from_each_port(rt: HostRuntime) -> Result<(), Fail> {
             peers.push(TcpStream::connect(&rt, SocketAddr::new(LOOPBACK, port))?)?;
         }
     }
-    for _ in 0..4 {
-        let _link = accepted(&mut door, &mut ready)?;
+    thread::sleep(&rt, Duration::from_millis(100));
+    for _ in 0..2 {
+        for port in ports {
+            let link = accepted(&mut door, &mut ready)?;
+            assert_eq!(rt; link.stream.local_addr()?.port(), port);
+            // Small pieces go out at once.
+            assert!(rt; link.stream.nodelay()?);
+        }
     }
     assert!(rt; matches!(door.accept(), Accepted::NotYet));
     assert_eq!(rt; (door.faults(), door.pauses() >= 2), (0, true));
@@ -262,6 +269,38 @@ fn events_that_find_no_room_come_at_the_next_poll(rt: HostRuntime) -> Result<(),
     assert_eq!(rt; seen, [true; 3]);
     assert_eq!(rt; ready.poll(0, &mut []), Polled::Events(0));
     assert_eq!(rt; ready.faults(), 0);
+    Ok(())
+}
+
+#[test]
+fn each_of_257_links_is_told_of(rt: HostRuntime) -> Result<(), Fail> {
+    let alloc = rt.alloc();
+    let mut ready = MioReady::new(&rt, alloc, 257)?;
+    // The door has a readiness of its own, so that no event of a link is taken before all are there.
+    let mut waiting = MioReady::new(&rt, alloc, 1)?;
+    let mut door = MioDoor::beside(rt, alloc, LOOPBACK, &waiting)?;
+    let port = opened(door.open(0))?;
+    let mut kept = Vec::new(alloc);
+    for place in 0..257u32 {
+        let peer = TcpStream::connect(&rt, SocketAddr::new(LOOPBACK, port))?;
+        let mut link = accepted(&mut door, &mut waiting)?;
+        assert!(rt; ready.register(&mut link, place));
+        kept.push((peer, link))?;
+    }
+    // Each has room to write, once. The system tells of 256 at a time.
+    let mut into = vec![in alloc; NO_EVENT; 300]?;
+    let mut told = vec![in alloc; 0u32; 257]?;
+    for _ in 0..20u32 {
+        let Polled::Events(count) = ready.poll(10, into.as_mut_slice()) else {
+            return Err("poll failed".into());
+        };
+        for event in &into[..count] {
+            if let Some(times) = told.get_mut(event.place as usize) {
+                *times = times.saturating_add(1);
+            }
+        }
+    }
+    assert!(rt; told.iter().all(|times| *times == 1));
     Ok(())
 }
 
@@ -301,6 +340,33 @@ fn a_bell_ends_a_poll_that_waits_and_a_link_goes_to_another_thread(
     Ok(())
 }
 
+/// Whether a poll for which no event waits ends long before its limit.
+fn ends_early(clock: &impl SystemClock, ready: &mut MioReady) -> io::Result<bool> {
+    let before = Instant::now(clock)?;
+    let polled = ready.poll(15_000, &mut [NO_EVENT; 4]);
+    Ok(polled == Polled::Events(0) && before.elapsed(clock)? < Duration::from_secs(10))
+}
+
+#[test]
+fn each_ring_ends_the_poll_that_waits_or_the_next(rt: HostRuntime) -> Result<(), Fail> {
+    let mut ready = MioReady::new(&rt, rt.alloc(), 1)?;
+    let bell = ready.bell()?;
+    bell.ring();
+    assert!(rt; ends_early(&rt, &mut ready)?);
+    for _ in 0..2u32 {
+        let theirs = ready.bell()?;
+        let child = thread::spawn(&rt, move || {
+            thread::sleep(&rt, Duration::from_millis(50));
+            theirs.ring();
+        })?;
+        assert!(rt; ends_early(&rt, &mut ready)?);
+        child.join(&rt);
+        bell.ring();
+        assert!(rt; ends_early(&rt, &mut ready)?);
+    }
+    Ok(())
+}
+
 /// A clock that can't be read.
 #[derive(Drop)]
 struct Stopped;
@@ -326,4 +392,31 @@ fn the_clock_tells_milliseconds_since_1970(rt: HostRuntime) {
     );
     assert!(rt; clock.now() >= moment);
     assert_eq!(rt; SysClock::new(Stopped).now(), 0);
+}
+
+/// A clock that can be read once.
+#[derive(Drop)]
+struct ReadOnce {
+    was_read: AtomicBool,
+}
+
+impl SystemClock for ReadOnce {
+    fn monotonic(&self) -> io::Result<Duration> {
+        Err(io::Error::from(io::ErrorKind::Unsupported))
+    }
+
+    fn since_1970(&self) -> io::Result<Duration> {
+        if self.was_read.swap(true, Ordering::SeqCst) {
+            return Err(io::Error::from(io::ErrorKind::Unsupported));
+        }
+        Ok(Duration::from_millis(1234))
+    }
+}
+
+#[test]
+fn a_clock_that_fails_tells_its_last_moment_again(rt: HostRuntime) {
+    let mut clock = SysClock::new(ReadOnce {
+        was_read: AtomicBool::new(false),
+    });
+    assert_eq!(rt; (clock.now(), clock.now()), (1234, 1234));
 }
