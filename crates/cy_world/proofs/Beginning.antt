@@ -1,5 +1,5 @@
 -- A connector to which nothing has happened stands for no steps.
-use Rattle.std.proofs.Common.{◌≡◌, ◌<◌, ◌≤◌, ℕ, ◌*◌, ◌↔◌, Bool, false, cond, List, [], All, get_or, length, replicate, Err, Result, Some, None, is_some, refl, sym, ap, ◌∙◌, subst, arith, ◌⊎◌, inl, inr}
+use Rattle.std.proofs.Common.{◌≡◌, ◌<◌, ◌≤◌, ℕ, zero, suc, ◌+◌, ◌*◌, ◌↔◌, Bool, false, cond, List, [], All, get_or, length, replicate, Err, Result, Option, Some, None, is_some, refl, sym, ap, ◌∙◌, subst, arith, ◌⊎◌, inl, inr}
 use Rattle.std.specs.Prelude.{slice_get}
 use Rattle.std.proofs.lemmas.Bool.{cases_lt}
 use Rattle.std.proofs.lemmas.List.{get_or-replicate, get_or_past, length-replicate}
@@ -10,7 +10,7 @@ use Rattle.cy_latch.specs.Numbers.{count_out, is_out}
 use Rattle.cy_map.specs.declared.fault.MapFault.{MapFault}
 use Rattle.cy_map.specs.declared.fault.MapFault.TheVariants as map_fault
 use Rattle.cy_map.specs.declared.rule.Rule.{Rule}
-use Rattle.cy_map.specs.Refusals.{IsFirstRepeat, first_bad}
+use Rattle.cy_map.specs.Refusals.{IsFirstRepeat, IsTaken, earlier_rule, first_bad}
 use Rattle.cy_world.specs.Answered.{IsVacant, SeatParts}
 use Rattle.cy_world.specs.Counts.{tenancies}
 use Rattle.cy_world.specs.Faults.{IsFaultOf, fault_by}
@@ -70,6 +70,48 @@ begins_as s seats latch book vacant unvisited size counted_none empty =
 
 -- ---- why there is none
 
+-- it is wanting memory alone, and tells of no fault of the rules
+no_pattern : (r : Result (List Rule) MapFault) (i : ℕ) → r ≡ Err map_fault.NoMemory → r ≡ Err (map_fault.BadPattern i) → ⊥
+no_pattern r i memory pattern = cc
+
+no_repeat : (r : Result (List Rule) MapFault) (i j : ℕ) → r ≡ Err map_fault.NoMemory → r ≡ Err (map_fault.RuleTwice i j) → ⊥
+no_repeat r i j memory repeat = cc
+
+none_bad : (rules : List Rule) (r : Result (List Rule) MapFault) (bad : Option ℕ) → first_bad rules ≡ bad → r ≡ Err map_fault.NoMemory
+    → ((i : ℕ) → (r ≡ Err (map_fault.BadPattern i)) ↔ (first_bad rules ≡ Some i)) → first_bad rules ≡ None
+none_bad rules r None is memory told = is
+none_bad rules r (Some i) is memory told = absurd (no_pattern r i memory ((told i).1 is))
+
+none_again : (rules : List Rule) (r : Result (List Rule) MapFault) (j : ℕ) (earlier : Option ℕ) → earlier_rule rules j ≡ earlier → r ≡ Err map_fault.NoMemory → first_bad rules ≡ None
+    → ((i j : ℕ) → (r ≡ Err (map_fault.RuleTwice i j)) ↔ ((first_bad rules ≡ None) × IsFirstRepeat rules i j))
+    → ((place : ℕ) → place < j → earlier_rule rules place ≡ None) → earlier_rule rules j ≡ None
+none_again rules r j None is memory good told below = is
+none_again rules r j (Some i) is memory good told below = absurd (no_repeat r i j memory ((told i j).1 (good, record { first = below; stands = is })))
+
+-- so none stands twice among so many
+none_twice : (rules : List Rule) (r : Result (List Rule) MapFault) (count : ℕ) → r ≡ Err map_fault.NoMemory → first_bad rules ≡ None
+    → ((i j : ℕ) → (r ≡ Err (map_fault.RuleTwice i j)) ↔ ((first_bad rules ≡ None) × IsFirstRepeat rules i j))
+    → (place : ℕ) → place < count → earlier_rule rules place ≡ None
+none_twice rules r zero memory good told place within = absurd (omega (arith, within))
+none_twice rules r (suc count) memory good told place within = by_order (none_twice rules r count memory good told) (cases_lt place count)
+  where
+    by_order : ((other : ℕ) → other < count → earlier_rule rules other ≡ None) → (place < count) ⊎ (count ≤ place) → earlier_rule rules place ≡ None
+    by_order before (inl below) = before place below
+    by_order before (inr past) =
+        let is : count ≡ place = omega (arith, within, past) in
+        subst (λ (n : ℕ). earlier_rule rules n ≡ None) is (none_again rules r count (earlier_rule rules count) refl memory good told before)
+
+-- where memory alone is wanting, the rules are taken
+pub none_at_fault : (rules : List Rule) (r : Result (List Rule) MapFault) → r ≡ Err map_fault.NoMemory
+    → ((i : ℕ) → (r ≡ Err (map_fault.BadPattern i)) ↔ (first_bad rules ≡ Some i))
+    → ((i j : ℕ) → (r ≡ Err (map_fault.RuleTwice i j)) ↔ ((first_bad rules ≡ None) × IsFirstRepeat rules i j))
+    → IsTaken rules
+none_at_fault rules r memory bad twice =
+    let good = none_bad rules r (first_bad rules) refl memory bad in record {
+      good = good;
+      distinct = λ place. none_twice rules r (place + 1) memory good twice place (omega arith);
+    }
+
 -- what the mapper says of the rules
 pub fault_is : (rules : List Rule) (r : Result (List Rule) MapFault) (f : MapFault) → r ≡ Err f
     → ((i : ℕ) → (r ≡ Err (map_fault.BadPattern i)) ↔ (first_bad rules ≡ Some i))
@@ -77,4 +119,4 @@ pub fault_is : (rules : List Rule) (r : Result (List Rule) MapFault) (f : MapFau
     → IsFaultOf rules (fault_by f)
 fault_is rules r (map_fault.BadPattern i) is bad twice = (bad i).0 is
 fault_is rules r (map_fault.RuleTwice i j) is bad twice = (twice i j).0 is
-fault_is rules r map_fault.NoMemory is bad twice = tt
+fault_is rules r map_fault.NoMemory is bad twice = none_at_fault rules r is bad twice

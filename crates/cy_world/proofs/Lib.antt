@@ -15,6 +15,7 @@ pub mod Retiring
 pub mod Admitting
 pub mod Passing
 pub mod Owned
+pub mod Wanting
 pub mod Beginning
 pub mod Telling
 pub mod Charts

@@ -1,5 +1,5 @@
 -- Which lists of steps a connector stands for.
-use Rattle.std.specs.Prelude.{◌≡◌, ℕ, Bool, true, false, if◌then◌else◌, List, [], ◌∷◌, length, MatchBool, Option, Some, None, is_some, slice_get}
+use Rattle.std.specs.Prelude.{◌≡◌, ◌≢◌, ℕ, Bool, true, false, if◌then◌else◌, List, [], ◌∷◌, length, MatchBool, Option, Some, None, is_some, slice_get}
 use Rattle.std.specs.BTreeMap.{is_at}
 use Rattle.std.specs.Map.{lookup}
 use Rattle.std.specs.Ordering.{nat_cmp}
@@ -100,6 +100,19 @@ CanTake (step.Admit c) p = find_in c p.book ≡ None
 CanTake (step.On c e b) p = Unit {0}
 CanTake (step.Run c) p = Unit {0}
 CanTake (step.Act c a b) p = IsWithinBytes a b
+
+-- a place is held for the connection of this number
+abbrev pub HoldsPlace : ℕ → WorldParts → Type 0
+HoldsPlace c p = (i : ℕ) × (find_in c p.book ≡ Some (Seated i))
+
+-- Memory can be wanting for an admission where not all are counted, and for a step of a connection that has a place. What
+-- is answered Full or NoConn, or Closed since the connection is gone, needs none.
+abbrev pub CanWantMemory : Step → WorldParts → Type 0
+CanWantMemory (step.At t) p = ⊥
+CanWantMemory (step.Admit c) p = count_out p.latch ≢ length p.latch
+CanWantMemory (step.On c e b) p = HoldsPlace c p
+CanWantMemory (step.Run c) p = HoldsPlace c p
+CanWantMemory (step.Act c a b) p = HoldsPlace c p
 
 -- the step is an entry of the connection of this number
 abbrev pub IsOwnOf : ℕ → Step → Type 0

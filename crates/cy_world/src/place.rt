@@ -7,7 +7,7 @@ ghost use Rattle.cy_event.specs.declared.limits.TheConstants.{GREATEST_MOMENT};
 ghost use Rattle.cy_model.specs.Outputs.{is_gone};
 ghost use Rattle.cy_model.specs.Marks.{Trace, opened};
 ghost use Rattle.cy_model.specs.Steps.{IsWithinBytes};
-ghost use Rattle.cy_proc.specs.LineChanges.{is_due, work_of};
+ghost use Rattle.cy_proc.specs.LineChanges.{is_due, room_of, work_of};
 ghost use Rattle.cy_proc.specs.Processors.{fresh_processor, is_open_at, is_over_at};
 ghost use Rattle.cy_rings.specs.declared.kit.TheConstants.{IN_CAPACITY, OUT_CAPACITY};
 ghost use Rattle.cy_event.specs.declared.steps.Reply.TheVariants as reply;
@@ -89,6 +89,7 @@ impl Place {
         ensures nobody { IfOk result (λ place. place.who ≡ None) }
         ensures slot { IfOk result IsInItsSlot }
         ensures unvisited { IfOk result (λ place. visits_of place.slot ≡ 0) }
+        ensures tenants { IfOk result (λ place. place.tenants_left ≡ GREATEST_TENANCY) }
         ensures charts { IfOk result (λ place. place.live.charts ≡ []) }
     {
         let Ok(line) = Line::new(alloc) else {
@@ -182,7 +183,8 @@ impl Place {
     /// How many bytes of the input the line would take now.
     fn in_room(&self) -> usize
         requires kept { is_over_at self.now.live.processor.stage ≡ false }
-        ensures { length self.now.live.line.unread + result ≤ IN_CAPACITY }
+        ensures room { result ≡ room_of self.now.live.line }
+        ensures held { length self.now.live.line.unread + result ≤ IN_CAPACITY }
     {
         match &self.idle {
             Some(idle) => idle.line.in_room(),
@@ -199,6 +201,7 @@ impl Place {
     pub fn reserve(&mut self, bytes: usize) -> Result<(), NoMemory>
         requires kept { is_over_at self.old.live.processor.stage ≡ false }
         ensures room { OnOk result (HasRoom bytes self.new) }
+        ensures enough { 2 ^ 16 ≤ self.old.tenants_left → self.new.tenants_left ≡ self.old.tenants_left }
         ensures same { IsSameButRoom self.old self.new }
     {
         self.get_spare()?;
@@ -228,6 +231,7 @@ impl Place {
     /// Gets a new slot where this one is nearly used up.
     fn get_spare(&mut self) -> Result<(), NoMemory>
         ensures left { OnOk result (2 * IN_CAPACITY + 8 ≤ self.new.tenants_left) }
+        ensures enough { 2 ^ 16 ≤ self.old.tenants_left → self.new.tenants_left ≡ self.old.tenants_left }
         ensures same { IsSameButRoom self.old self.new }
     {
         if self.slot.tenancy() > WORN && self.spare.is_none() {
@@ -507,6 +511,7 @@ impl Place {
         ensures nobody { self.new.who ≡ None }
         ensures slot { IsInItsSlot self.new }
         ensures visits { visits_of self.new.slot ≡ visits_of self.old.slot }
+        ensures tenants { self.new.tenants_left ≡ self.old.tenants_left }
         ensures lives { Lives ((START, opened) ∷ []) self.new.live }
         ensures limits { self.new.live.limits ≡ self.old.live.limits }
         ensures moment { self.new.live.line.moment ≡ START }

@@ -19,7 +19,7 @@ ghost use Rattle.cy_world.specs.declared.world.Admitted.TheVariants.{Seated};
 ghost use Rattle.cy_world.specs.Counts.{tenancies};
 ghost use Rattle.cy_world.specs.Faults.{IsFaultOf};
 ghost use Rattle.cy_world.specs.Told.{IsHeldFor, SitsIn, replied, request_count, slot_at, tally_of, told_of};
-ghost use Rattle.cy_world.specs.Worlds.{CanTake, IsAsBefore, IsOwnOf, PutsDown, Retires, StandsFor, TakesStep, find_in};
+ghost use Rattle.cy_world.specs.Worlds.{CanTake, CanWantMemory, IsAsBefore, IsOwnOf, PutsDown, Retires, StandsFor, TakesStep, find_in};
 
 mod report;
 
@@ -121,6 +121,7 @@ impl World {
         ensures takes { IfOk result (λ r. (w : List AnyStep) → StandsFor w self.old → TakesStep w step.now self.old (replied r) self.new) }
         ensures unchanged { OnErr result (IsAsBefore self.old self.new) }
         ensures stands { OnErr result ((w : List AnyStep) → StandsFor w self.old → StandsFor w self.new) }
+        ensures memory { OnErr result (CanWantMemory step.now self.old) }
         ensures terms { self.new.terms ≡ self.old.terms }
     {
         if let Step::Admit(number) = step {
@@ -145,6 +146,7 @@ impl World {
         ensures takes { IfOk result (λ r. (w : List AnyStep) → StandsFor w self.old → TakesStep w (Step.Admit number) self.old (plain r) self.new) }
         ensures unchanged { OnErr result (IsAsBefore self.old self.new) }
         ensures stands { OnErr result ((w : List AnyStep) → StandsFor w self.old → StandsFor w self.new) }
+        ensures memory { OnErr result (CanWantMemory (Step.Admit number) self.old) }
         ensures terms { self.new.terms ≡ self.old.terms }
     {
         let share = match self.latch.enter() {

@@ -15,5 +15,5 @@ returns-clause-room c =
     let free : ℕ = c.in_room-waiting.result in
     one_ok c.get_chart_room.result c.get_chart_room.ensures.room (λ room.
     asked_room c.get_spare.new.self c.get_chart_room.new.self c.args.bytes free ((IN_CAPACITY - free) + taken_at_most c.args.bytes + 3)
-    (ap (λ (p : PlaceParts). p.live) c.get_chart_room.ensures.same) c.get_chart_room.ensures.tenants c.in_room-waiting.ensures
+    (ap (λ (p : PlaceParts). p.live) c.get_chart_room.ensures.same) c.get_chart_room.ensures.tenants c.in_room-waiting.ensures.held
     (omega arith) (omega (arith, room, c.min-coming.ensures)) c.in_ok-get_spare.ensures.left)

@@ -6,6 +6,7 @@ use Rattle.cy_latch.specs.Runs.{IsTurn, entered}
 use Rattle.cy_world.specs.Worlds.{WorldParts, find_in}
 use Rattle.cy_world.proofs.Owned.{admit_stands, as_before, is_free, left_again, same_again, vacant_still}
 use Rattle.cy_world.proofs.Visits.{counts_behind}
+use Rattle.cy_world.proofs.Wanting.{share_wants}
 use Rattle.cy_world.proofs.world.World.admit.Goals as goal
 
 pub book_seat-requires : goal.book_seat-requires
@@ -63,3 +64,7 @@ returns-in_default-clause-unchanged c =
     let free = is_free c.self.invariant.0 _ c.number-place.result c.index_mut-seat.result.now c.self.invariant.1 turn.0 turn.1 c.index_mut-seat.ensures.value in
     let again = c.leave.ensures ∙ ap (after_leave c.enter.new.self) (sym c.number-place.ensures) ∙ left_again c.self.inside.latch c.enter.new.self c.number-place.result turn.0 turn.1 turn.2 in
     rw (← c.self.view_is) (as_before _ c.number-place.result c.index_mut-seat.result.now c.book_seat.new.seat c.leave.new.self c.book_seat.new.book.entries free.there c.book_seat.ensures.same again c.in_default.ensures.unbooked)
+
+pub returns-in_default-clause-memory : goal.returns-in_default-clause-memory
+returns-in_default-clause-memory c =
+    rw (← c.self.view_is) (share_wants _ c.self.inside.latch c.in-Entered.ensures.full)

@@ -7,6 +7,7 @@ use Rattle.cy_world.specs.declared.world.Admitted.TheVariants.{Gone, Seated}
 use Rattle.cy_world.proofs.Owned.{answered_as, as_before, is_lent, on_err, own_stands, place_below}
 use Rattle.cy_world.proofs.Passing.{gone_answers, nobody_answers}
 use Rattle.cy_world.proofs.Stepping.{kind_of_own, same_stands}
+use Rattle.cy_world.proofs.Wanting.{held_wants}
 use Rattle.cy_world.proofs.world.World.step.Goals as goal
 
 pub returns-in-None-clause-takes : goal.returns-in-None-clause-takes
@@ -104,3 +105,10 @@ returns-in_err-reply-2-clause-unchanged c =
     let lent = is_lent c.self.invariant.0 _ c.conn_of-number.result c.in-Some-Seated.place c.index_mut-seat.result.now c.self.invariant.1 booked c.index_mut-seat.ensures.value in
     rw (← c.self.view_is)
     (on_err c.from_residual-in_err-reply-2.result _ (as_before _ c.in-Some-Seated.place c.index_mut-seat.result.now c.take.new.self c.self.inside.latch c.self.inside.book.entries lent.there c.in_err-reply-2.ensures.unchanged refl refl))
+
+pub returns-in_err-reply-2-clause-memory : goal.returns-in_err-reply-2-clause-memory
+returns-in_err-reply-2-clause-memory c =
+    let booked : find_in c.conn_of-number.result c.self.inside.book.entries ≡ Some (Seated c.in-Some-Seated.place) =
+    sym c.get.ensures.value ∙ ap option_copied c.in-Some-Seated.is ∙ ap Some c.in-Some-Seated.field-0-is in
+    rw (← c.self.view_is)
+    (on_err c.from_residual-in_err-reply-2.result _ (held_wants c.conn_of-number.result c.args.step.now _ c.in-Some-Seated.place c.conn_of-number.ensures booked))
