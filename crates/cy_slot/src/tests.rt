@@ -1,8 +1,9 @@
-// A slot, driven as who holds it drives it: what it answers in each state, a tenant's whole request, and what the next
-// tenant finds of the former one. Memory is ample.
+// A slot, driven as who holds it drives it: what it answers in each state, a tenant's whole
+// request, and what the next tenant finds of the former one. The steps stand in lines of text, and
+// so does what is wanted. Memory is ample.
 use super::*;
 use cy_bytes::Bytes;
-use cy_event::{Act, Call, ChartItem, CloseCause, Event, Job, Limits, Reply, RequestHead};
+use cy_event::{Act, CloseCause, Event, Job, Limits, Reply, RequestHead};
 use cy_latch::{Enter, LatchBook, Share};
 use cy_map::{Mapper, Rule};
 use cy_proc::Line;
@@ -10,11 +11,6 @@ use cy_rings::OUT_CAPACITY;
 use std::alloc::Global;
 use std::process::Abort;
 use std::test::Fail;
-
-const HEAD: &[u8] = b"GET /a HTTP/1.1\r\nHost: a\r\n\r\n";
-
-const ANSWER: &[u8] =
-    b"HTTP/1.1 200 \r\nContent-Length: 5\r\nDate: Thu, 01 Jan 1970 00:00:00 GMT\r\n\r\nhello";
 
 fn rule(alloc: Global, pattern: &[u8], part: u32) -> Result<Rule, Fail> {
     Ok(Rule {
@@ -28,6 +24,53 @@ fn rule(alloc: Global, pattern: &[u8], part: u32) -> Result<Rule, Fail> {
 fn rules(alloc: Global) -> Result<Mapper, Fail> {
     let rules = [rule(alloc, b"/a/*", 0)?, rule(alloc, b"/b/*", 7)?];
     Ok(Mapper::new(alloc, &rules)?)
+}
+
+/// A slot, and the connection that it handed out last.
+#[derive(Drop)]
+struct Desk {
+    slot: Slot,
+    rules: Mapper,
+    left: Option<Conn>,
+}
+
+fn desk_of(alloc: Global, slot: Slot) -> Result<Desk, Fail> {
+    Ok(Desk {
+        slot,
+        rules: rules(alloc)?,
+        left: None,
+    })
+}
+
+/// A slot whose first tenant gets the number 0.
+fn new_desk(alloc: Global) -> Result<Desk, Fail> {
+    desk_of(alloc, Slot::new(alloc, &Limits::standard(8))?)
+}
+
+/// A slot whose first tenant gets this number.
+fn desk_from(alloc: Global, first: u64) -> Result<Desk, Fail> {
+    desk_of(alloc, Slot::new_at(alloc, &Limits::standard(8), first)?)
+}
+
+/// The bytes of a text, in which a tilde stands for the end of a line.
+fn bytes_of(alloc: Global, text: &str) -> Result<Vec<u8>, Fail> {
+    let mut bytes = Vec::new(alloc);
+    for byte in text.as_bytes() {
+        if *byte == b'~' {
+            bytes.extend_from_slice(b"\r\n")?;
+        } else {
+            bytes.push(*byte)?;
+        }
+    }
+    Ok(bytes)
+}
+
+/// These bytes, or that there are none.
+fn or_nothing(alloc: Global, bytes: Vec<u8>) -> Result<Vec<u8>, Fail> {
+    if bytes.is_empty() {
+        return Ok(Vec::from_slice(alloc, b"nothing")?);
+    }
+    Ok(bytes)
 }
 
 fn share(rt: &impl Abort, alloc: Global) -> Result<Share, Fail> {
@@ -50,12 +93,15 @@ fn conn(rt: &impl Abort, alloc: Global, number: u64, bytes: &[u8]) -> Result<Con
     Ok(conn)
 }
 
-/// What `bind` answers: the tenancy that it tells, and the number of the connection that it hands back.
-fn bind(slot: &mut Slot, conn: Conn) -> (Option<u64>, Option<u64>) {
+/// What `bind` answers: the tenancy that it tells, and the number of the connection that it hands
+/// back.
+fn bind(alloc: Global, slot: &mut Slot, conn: Conn) -> Result<String, Fail> {
     match slot.bind(conn) {
-        Bound::Bound { tenancy } => (Some(tenancy), None),
-        Bound::Occupied { tenancy, conn } => (Some(tenancy), Some(conn.number)),
-        Bound::Worn { conn } => (None, Some(conn.number)),
+        Bound::Bound { tenancy } => Ok(format!(in alloc; "bound {tenancy}")?),
+        Bound::Occupied { tenancy, conn } => {
+            Ok(format!(in alloc; "occupied {tenancy}, {} is back", conn.number)?)
+        }
+        Bound::Worn { conn } => Ok(format!(in alloc; "worn, {} is back", conn.number)?),
     }
 }
 
@@ -81,40 +127,64 @@ fn give_back(slot: &mut Slot, tenancy: u64) -> Reply {
     slot.act(tenancy, 0, &Act::Return, b"", &mut [])
 }
 
-/// Keeps this in each of the state bytes.
+/// What a step is answered that is meant for this tenant: a word, and its text.
+fn reply(
+    rt: &impl Abort,
+    alloc: Global,
+    desk: &mut Desk,
+    tenancy: u64,
+    word: &str,
+    text: &str,
+) -> Result<Reply, Fail> {
+    let bytes = bytes_of(alloc, text)?;
+    match word {
+        "open" => Ok(open(&mut desk.slot, tenancy, &desk.rules)),
+        "in" => Ok(tell(&mut desk.slot, tenancy, Event::In, &bytes)),
+        "end" => Ok(tell(&mut desk.slot, tenancy, Event::End, b"")),
+        "took" => {
+            let took = Event::Took(text.parse::<u64>()?);
+            Ok(tell(&mut desk.slot, tenancy, took, b""))
+        }
+        "run" => Ok(run(&mut desk.slot, tenancy)),
+        "write" => Ok(write(rt, &mut desk.slot, tenancy, &bytes)),
+        "return" => Ok(give_back(&mut desk.slot, tenancy)),
+        _ => Err("no word of a step".into()),
+    }
+}
+
+/// Whether the slot keeps this in each of the state bytes.
 fn keep(alloc: Global, slot: &mut Slot, tenancy: u64, mark: u8) -> Result<bool, Fail> {
     let state = vec![in alloc; mark; STATE_BYTES]?;
     Ok(slot.keep(tenancy, &state))
 }
 
-/// The state bytes that are lent, with the head, if they are.
-fn lend(
-    alloc: Global,
-    slot: &Slot,
-    tenancy: u64,
-    head: &mut RequestHead,
-) -> Result<Option<Vec<u8>>, Fail> {
-    let mut state = vec![in alloc; 9; STATE_BYTES]?;
-    if slot.lend(tenancy, head, &mut state) {
-        Ok(Some(state))
-    } else {
-        Ok(None)
-    }
-}
-
-/// Whether the tenant is lent this in each of 256 state bytes.
-fn has_state(alloc: Global, slot: &Slot, tenancy: u64, mark: u8) -> Result<bool, Fail> {
+/// Whether anything is lent, and what stands then in the head, and in how many state bytes the
+/// same: they are lent into 256 nines.
+fn lent(alloc: Global, slot: &Slot, tenancy: u64) -> Result<Vec<u8>, Fail> {
     let mut head = RequestHead::new(alloc, &Limits::standard(8))?;
-    let marks = vec![in alloc; mark; 256]?;
-    Ok(lend(alloc, slot, tenancy, &mut head)? == Some(marks))
+    let mut state = vec![in alloc; 9; STATE_BYTES]?;
+    let is_lent = slot.lend(tenancy, &mut head, &mut state);
+    let mut text = format!(in alloc; "{is_lent} ")?.into_bytes();
+    push_head(alloc, &mut text, &head)?;
+    text.extend_from_slice(marks(alloc, &state)?.as_bytes())?;
+    Ok(text)
 }
 
-fn in_room(slot: &Slot, tenancy: u64) -> usize {
-    slot.in_room(tenancy)
+/// Appends what stands in a head, and how many fields it has.
+fn push_head(alloc: Global, text: &mut Vec<u8>, head: &RequestHead) -> Result<(), Fail> {
+    text.extend_from_slice(head.method())?;
+    text.extend_from_slice(head.path())?;
+    text.extend_from_slice(head.query().unwrap_or(b"no query"))?;
+    text.extend_from_slice(&head.field_bytes)?;
+    text.extend_from_slice(format!(in alloc; " {}", head.field_count())?.as_bytes())?;
+    Ok(())
 }
 
-fn unsent_len(slot: &mut Slot, tenancy: u64) -> usize {
-    slot.unsent_len(tenancy)
+/// How many of the state bytes are as the first of them.
+fn marks(alloc: Global, state: &[u8]) -> Result<String, Fail> {
+    let mark = state.first().copied().unwrap_or(0);
+    let count = state.iter().filter(|byte| **byte == mark).count();
+    Ok(format!(in alloc; ", {count} of {mark}")?)
 }
 
 /// The first bytes that wait, eight at most, as they are copied out.
@@ -132,14 +202,43 @@ fn pushed(alloc: Global, slot: &mut Slot, tenancy: u64, first: usize) -> Result<
     Ok(to)
 }
 
-fn release(rt: &impl Abort, slot: &mut Slot) -> Conn {
-    assert!(rt; slot.is_over());
-    slot.release()
+fn in_room(slot: &Slot, tenancy: u64) -> usize {
+    slot.in_room(tenancy)
 }
 
-fn chart_item(rt: &impl Abort, slot: &Slot, i: usize) -> ChartItem {
-    assert!(rt; i < slot.chart_len());
-    slot.chart_item(i)
+fn unsent_len(slot: &mut Slot, tenancy: u64) -> usize {
+    slot.unsent_len(tenancy)
+}
+
+/// What a word asks that has a number, that of a tenant or of a connection, and maybe a text.
+fn asked(
+    rt: &impl Abort,
+    alloc: Global,
+    desk: &mut Desk,
+    number: u64,
+    word: &str,
+    text: &str,
+) -> Result<Vec<u8>, Fail> {
+    let slot = &mut desk.slot;
+    match word {
+        "bind" => {
+            let conn = conn(rt, alloc, number, &bytes_of(alloc, text)?)?;
+            Ok(bind(alloc, slot, conn)?.into_bytes())
+        }
+        "keep" => {
+            let kept = keep(alloc, slot, number, text.parse::<u8>()?)?;
+            Ok(format!(in alloc; "{kept}")?.into_bytes())
+        }
+        "lent" => lent(alloc, slot, number),
+        "room" => Ok(format!(in alloc; "{}", in_room(slot, number))?.into_bytes()),
+        "unsent" => Ok(format!(in alloc; "{}", unsent_len(slot, number))?.into_bytes()),
+        "front" => or_nothing(alloc, front(alloc, slot, number)?),
+        "behind" => or_nothing(alloc, pushed(alloc, slot, number, text.parse::<usize>()?)?),
+        _ => {
+            let reply = reply(rt, alloc, desk, number, word, text)?;
+            Ok(format!(in alloc; "{reply:?}")?.into_bytes())
+        }
+    }
 }
 
 /// What a slot tells of itself.
@@ -168,229 +267,147 @@ fn look_at(slot: &Slot) -> Look {
     }
 }
 
-/// That each step but `open` is refused that is meant for the tenant of this number, and changes nothing.
-fn expect_shut(rt: &impl Abort, alloc: Global, slot: &mut Slot, tenancy: u64) -> Result<(), Fail> {
-    let before = look_at(slot);
-    assert_eq!(rt; tell(slot, tenancy, Event::In, b"x"), Reply::Ended);
-    assert_eq!(rt; run(slot, tenancy), Reply::Ended);
-    assert_eq!(rt; write(rt, slot, tenancy, b"x"), Reply::Ended);
-    assert_eq!(rt; give_back(slot, tenancy), Reply::Ended);
-    assert!(rt; !keep(alloc, slot, tenancy, 7)?);
-    expect_hidden(rt, alloc, slot, tenancy)?;
-    assert_eq!(rt; look_at(slot), before);
-    Ok(())
+/// All that a slot tells of itself but the number of its tenant.
+fn all(alloc: Global, slot: &Slot) -> Result<String, Fail> {
+    let look = Look {
+        tenancy: 0,
+        ..look_at(slot)
+    };
+    Ok(format!(in alloc; "{look:?}")?)
 }
 
-/// That nothing is told or lent to the tenant of this number.
-fn expect_hidden(
-    rt: &impl Abort,
-    alloc: Global,
-    slot: &mut Slot,
-    tenancy: u64,
-) -> Result<(), Fail> {
-    let mut head = RequestHead::new(alloc, &Limits::standard(8))?;
-    assert!(rt; lend(alloc, slot, tenancy, &mut head)? == None);
-    assert_eq!(rt; head.method(), b"".as_slice());
-    assert_eq!(rt; in_room(slot, tenancy), 0);
-    assert_eq!(rt; unsent_len(slot, tenancy), 0);
-    assert!(rt; front(alloc, slot, tenancy)?.is_empty());
-    assert!(rt; pushed(alloc, slot, tenancy, 0)?.is_empty());
-    Ok(())
+/// The items of the chart.
+fn chart(alloc: Global, slot: &Slot) -> Result<String, Fail> {
+    let mut text = String::new(alloc);
+    for i in 0..slot.chart_len() {
+        let item = slot.chart_item(i);
+        text.push_str(format!(in alloc; "{item:?};")?.as_str())?;
+    }
+    Ok(text)
 }
 
-#[test]
-fn a_slot_has_one_tenant_at_a_time(rt: HostRuntime) -> Result<(), Fail> {
-    let alloc = rt.alloc();
-    let rules = rules(alloc)?;
-    let mut slot = Slot::new_at(alloc, &Limits::standard(8), 5)?;
-    assert_eq!(rt; bind(&mut slot, conn(&rt, alloc, 1, b"")?), (Some(5), None));
-    assert_eq!(rt;
-        bind(&mut slot, conn(&rt, alloc, 2, b"")?),
-        (Some(5), Some(2))
+/// What a slot tells of itself, by a word.
+fn told(alloc: Global, slot: &Slot, word: &str) -> Result<String, Fail> {
+    let look = look_at(slot);
+    match word {
+        "tenancy" => Ok(format!(in alloc; "{}", look.tenancy)?),
+        "first" => Ok(format!(in alloc; "{}", look.first)?),
+        "part" => Ok(format!(in alloc; "{}", look.part)?),
+        "over" => Ok(format!(in alloc; "{}", look.is_over)?),
+        "request" => Ok(format!(in alloc; "{}", look.has_request)?),
+        "items" => Ok(format!(in alloc; "{}", look.chart_len)?),
+        "job" => Ok(format!(in alloc; "{:?}", look.job)?),
+        "cause" => Ok(format!(in alloc; "{:?}", look.cause)?),
+        "chart" => chart(alloc, slot),
+        "all" => all(alloc, slot),
+        _ => Err("no word".into()),
+    }
+}
+
+fn release(rt: &impl Abort, slot: &mut Slot) -> Conn {
+    assert!(rt; slot.is_over());
+    slot.release()
+}
+
+/// Releases the slot, and answers the number of the connection that it hands out.
+fn released(rt: &impl Abort, alloc: Global, desk: &mut Desk) -> Result<String, Fail> {
+    let conn = release(rt, &mut desk.slot);
+    let text = format!(in alloc; "{}", conn.number)?;
+    desk.left = Some(conn);
+    Ok(text)
+}
+
+/// The connection that was handed out comes back.
+fn again(alloc: Global, desk: &mut Desk) -> Result<String, Fail> {
+    let conn = desk.left.take().ok_or("none was handed out")?;
+    bind(alloc, &mut desk.slot, conn)
+}
+
+/// What waits for the socket of the connection that was handed out.
+fn left(alloc: Global, desk: &mut Desk) -> Result<Vec<u8>, Fail> {
+    let mut conn = desk.left.take().ok_or("none was handed out")?;
+    let unsent = Vec::from_slice(alloc, conn.line.unsent())?;
+    desk.left = Some(conn);
+    Ok(unsent)
+}
+
+/// What a line asks: a word, maybe with a number, and with a text behind it.
+fn answer(rt: &impl Abort, alloc: Global, desk: &mut Desk, line: &str) -> Result<Vec<u8>, Fail> {
+    match line.split_once(' ') {
+        Some((word, rest)) => {
+            let (number, text) = rest.split_once(' ').unwrap_or((rest, ""));
+            asked(rt, alloc, desk, number.parse::<u64>()?, word, text)
+        }
+        None => match line {
+            "release" => Ok(released(rt, alloc, desk)?.into_bytes()),
+            "again" => Ok(again(alloc, desk)?.into_bytes()),
+            "left" => left(alloc, desk),
+            _ => Ok(told(alloc, &desk.slot, line)?.into_bytes()),
+        },
+    }
+}
+
+/// That a line is answered as it says behind the sign `=>`.
+fn expect_line(rt: &impl Abort, alloc: Global, desk: &mut Desk, line: &str) -> Result<(), Fail> {
+    let (asked, wanted) = line.split_once(" => ").ok_or("a line without an answer")?;
+    let got = answer(rt, alloc, desk, asked)?;
+    let wanted = bytes_of(alloc, wanted)?;
+    assert!(rt;
+        got == wanted,
+        "{line}: {}",
+        String::from_utf8_lossy(alloc, &got)?.as_str()
     );
-    assert_eq!(rt; look_at(&slot).tenancy, 5);
-
-    // The last number but one is given, and then the slot is worn.
-    let last = u64::MAX - 1;
-    let mut slot = Slot::new_at(alloc, &Limits::standard(8), last)?;
-    let refused = conn(&rt, alloc, 3, b"GET /a\r\n\r\n")?;
-    assert_eq!(rt; bind(&mut slot, refused), (Some(last), None));
-    assert_eq!(rt; open(&mut slot, last, &rules), Reply::Done);
-    assert_eq!(rt; release(&rt, &mut slot).number, 3);
-    assert_eq!(rt;
-        bind(&mut slot, conn(&rt, alloc, 4, HEAD)?),
-        (None, Some(4))
-    );
-    assert_eq!(rt; open(&mut slot, u64::MAX, &rules), Reply::Ended);
-    expect_shut(&rt, alloc, &mut slot, u64::MAX)?;
-    assert_eq!(rt; look_at(&slot).tenancy, GREATEST_TENANCY);
-    assert_eq!(rt; look_at(&slot).first, last);
     Ok(())
 }
 
-#[test]
-fn before_its_open_no_step_takes_effect(rt: HostRuntime) -> Result<(), Fail> {
-    let alloc = rt.alloc();
-    let rules = rules(alloc)?;
-    let mut slot = Slot::new_at(alloc, &Limits::standard(8), 5)?;
-
-    // Nobody sits there.
-    expect_shut(&rt, alloc, &mut slot, 5)?;
-    assert_eq!(rt; open(&mut slot, 5, &rules), Reply::Ended);
-
-    // A head is due, and isn't opened yet.
-    let conn = conn(&rt, alloc, 1, HEAD)?;
-    assert_eq!(rt; bind(&mut slot, conn), (Some(5), None));
-    for tenancy in [4, 5, 6] {
-        expect_shut(&rt, alloc, &mut slot, tenancy)?;
+/// A text with this in the place of each `#`.
+fn filled(alloc: Global, text: &str, with: &str) -> Result<String, Fail> {
+    let mut whole = String::new(alloc);
+    for piece in text.chars() {
+        if piece == '#' {
+            whole.push_str(with)?;
+        } else {
+            whole.push(piece)?;
+        }
     }
-    for other in [0, 4, 6, u64::MAX] {
-        assert_eq!(rt; open(&mut slot, other, &rules), Reply::Ended);
+    Ok(whole)
+}
+
+/// What a slot answers to a tenant for whom no step but `open` would take effect.
+const SHUT: &str = "in # x => Ended
+run # => Ended
+write # x => Ended
+return # => Ended
+keep # 7 => false
+lent # => false no query 0, 256 of 9
+room # => 0
+unsent # => 0
+front # => nothing
+behind # 0 => nothing";
+
+/// That each step but `open` is refused that is meant for the tenant of this number, that nothing
+/// is told or lent to him, and that nothing changes.
+fn expect_shut(rt: &impl Abort, alloc: Global, desk: &mut Desk, tenancy: &str) -> Result<(), Fail> {
+    let before = look_at(&desk.slot);
+    let lines = filled(alloc, SHUT, tenancy)?;
+    for line in lines.lines() {
+        expect_line(rt, alloc, desk, line)?;
     }
-    assert_eq!(rt; open(&mut slot, 5, &rules), Reply::Done);
-    assert!(rt; look_at(&slot).has_request);
+    assert_eq!(rt; look_at(&desk.slot), before);
     Ok(())
 }
 
-#[test]
-fn a_step_for_another_tenant_changes_nothing(rt: HostRuntime) -> Result<(), Fail> {
-    let alloc = rt.alloc();
-    let rules = rules(alloc)?;
-    let mut slot = Slot::new_at(alloc, &Limits::standard(8), 5)?;
-    let first = conn(&rt, alloc, 1, HEAD)?;
-    assert_eq!(rt; bind(&mut slot, first), (Some(5), None));
-    assert_eq!(rt; open(&mut slot, 5, &rules), Reply::Done);
-
-    // The request is open.
-    assert_eq!(rt; open(&mut slot, 5, &rules), Reply::Ended);
-    for other in [0, 4, 6, u64::MAX] {
-        expect_shut(&rt, alloc, &mut slot, other)?;
-    }
-    assert_eq!(rt; run(&mut slot, 5), Reply::Begun(Job::Service { part: 0 }));
-    assert_eq!(rt; open(&mut slot, 5, &rules), Reply::Ended);
-    assert_eq!(rt; give_back(&mut slot, 5), Reply::Done);
-
-    // It is over, and then another sits there, whose head isn't whole.
-    expect_shut(&rt, alloc, &mut slot, 5)?;
-    assert_eq!(rt; open(&mut slot, 5, &rules), Reply::Ended);
-    assert_eq!(rt; release(&rt, &mut slot).number, 1);
-    let second = conn(&rt, alloc, 2, b"GET /a")?;
-    assert_eq!(rt; bind(&mut slot, second), (Some(6), None));
-    assert_eq!(rt; open(&mut slot, 6, &rules), Reply::Ended);
-    for tenancy in [5, 6] {
-        expect_shut(&rt, alloc, &mut slot, tenancy)?;
+/// That each line is answered as it says, and where it is the word `shut` with a number, that the
+/// slot is shut to the tenant of this number.
+fn expect(rt: &impl Abort, alloc: Global, mut desk: Desk, lines: &str) -> Result<(), Fail> {
+    for line in lines.lines() {
+        match line.strip_prefix("shut ") {
+            Some(tenancy) => expect_shut(rt, alloc, &mut desk, tenancy)?,
+            None => expect_line(rt, alloc, &mut desk, line)?,
+        }
     }
     Ok(())
 }
 
-/// What a tenant is lent at his head, and that the state bytes that he keeps are lent again.
-fn expect_lent(rt: &impl Abort, alloc: Global, slot: &mut Slot) -> Result<(), Fail> {
-    let mut head = RequestHead::new(alloc, &Limits::standard(8))?;
-    assert!(rt; lend(alloc, slot, 0, &mut head)?.is_some());
-    assert_eq!(rt; head.path(), b"/b/c".as_slice());
-    assert_eq!(rt; head.query(), Some(b"q".as_slice()));
-    assert_eq!(rt; head.field_count(), 1);
-    assert!(rt; has_state(alloc, slot, 0, 0)?);
-    assert!(rt; keep(alloc, slot, 0, 3)?);
-    assert!(rt; has_state(alloc, slot, 0, 3)?);
-    Ok(())
-}
-
-/// That his service runs and writes, while the 28 bytes of a second head and two more wait in the ring.
-fn expect_service(rt: &impl Abort, slot: &mut Slot) {
-    let job = Job::Service { part: 7 };
-    assert_eq!(rt; look_at(slot).part, 7);
-    assert_eq!(rt; look_at(slot).job, Some(job));
-    assert_eq!(rt; in_room(slot, 0), 16_356);
-    assert_eq!(rt; tell(slot, 0, Event::In, b"GE"), Reply::Taken(2));
-    assert_eq!(rt; in_room(slot, 0), 16_354);
-    assert_eq!(rt; run(slot, 0), Reply::Begun(job));
-    assert_eq!(rt; run(slot, 0), Reply::Idle);
-    assert_eq!(rt; look_at(slot).job, None);
-    assert_eq!(rt; write(rt, slot, 0, b"hello"), Reply::Taken(5));
-    assert_eq!(rt; give_back(slot, 0), Reply::Done);
-}
-
-/// That his chart stays until he leaves, and his answer goes with him.
-fn expect_leave(rt: &impl Abort, slot: &mut Slot) -> Conn {
-    assert!(rt; look_at(slot).has_request);
-    assert_eq!(rt; look_at(slot).part, 0);
-    assert_eq!(rt; look_at(slot).chart_len, 2);
-    assert!(rt; chart_item(rt, slot, 0) == ChartItem::One(Call::Run));
-    assert!(rt; chart_item(rt, slot, 1) == ChartItem::One(Call::Return));
-    let mut conn = release(rt, slot);
-    assert_eq!(rt; conn.number, 1);
-    assert_eq!(rt; conn.line.unsent(), ANSWER);
-    assert_eq!(rt; look_at(slot).chart_len, 0);
-    assert!(rt; !look_at(slot).has_request);
-    conn
-}
-
-/// That the answer that still waits is copied out, and goes as the socket takes it.
-fn expect_unsent(rt: &impl Abort, alloc: Global, slot: &mut Slot) -> Result<(), Fail> {
-    assert_eq!(rt; unsent_len(slot, 1), 78);
-    assert_eq!(rt; front(alloc, slot, 1)?.as_slice(), b"HTTP/1.1".as_slice());
-    let sent = pushed(alloc, slot, 1, 8)?;
-    assert_eq!(rt; sent.len(), 70);
-    assert!(rt; ANSWER.ends_with(&sent));
-    assert_eq!(rt; tell(slot, 1, Event::Took(78), b""), Reply::Taken(78));
-    assert_eq!(rt; unsent_len(slot, 1), 0);
-    assert!(rt; front(alloc, slot, 1)?.is_empty());
-    Ok(())
-}
-
-#[test]
-fn a_tenant_is_served_until_he_leaves(rt: HostRuntime) -> Result<(), Fail> {
-    let alloc = rt.alloc();
-    let rules = rules(alloc)?;
-    let mut slot = Slot::new(alloc, &Limits::standard(8))?;
-    let bytes = b"GET /b/c?q HTTP/1.1\r\nHost: a\r\n\r\nGET /a HTTP/1.1\r\nHost: a\r\n\r\n";
-    let conn = conn(&rt, alloc, 1, bytes)?;
-    assert_eq!(rt; bind(&mut slot, conn), (Some(0), None));
-    assert_eq!(rt; open(&mut slot, 0, &rules), Reply::Done);
-    expect_lent(&rt, alloc, &mut slot)?;
-    expect_service(&rt, &mut slot);
-
-    // He comes back for his next request.
-    let conn = expect_leave(&rt, &mut slot);
-    assert_eq!(rt; bind(&mut slot, conn), (Some(1), None));
-    assert_eq!(rt; open(&mut slot, 1, &rules), Reply::Done);
-    expect_unsent(&rt, alloc, &mut slot)
-}
-
-#[test]
-fn a_head_may_be_over_as_it_is_opened(rt: HostRuntime) -> Result<(), Fail> {
-    let alloc = rt.alloc();
-    let rules = rules(alloc)?;
-    let mut slot = Slot::new(alloc, &Limits::standard(8))?;
-    let rows: [(&[u8], bool, Option<CloseCause>); 3] = [
-        (b"GET /a\r\n\r\n", false, Some(CloseCause::Refused)),
-        (b"GET /c HTTP/1.1\r\nHost: a\r\n\r\n", true, None),
-        (
-            b"GET /c HTTP/1.0\r\n\r\n",
-            true,
-            Some(CloseCause::LastAnswer),
-        ),
-    ];
-    for (bytes, has_request, cause) in rows {
-        let tenancy = look_at(&slot).tenancy;
-        assert_eq!(rt;
-            bind(&mut slot, conn(&rt, alloc, 1, bytes)?),
-            (Some(tenancy), None)
-        );
-        assert!(rt; !look_at(&slot).is_over);
-        assert_eq!(rt; open(&mut slot, tenancy, &rules), Reply::Done);
-        assert!(rt; look_at(&slot).is_over);
-        assert_eq!(rt; look_at(&slot).has_request, has_request);
-        assert_eq!(rt; look_at(&slot).cause, cause);
-        assert_eq!(rt; look_at(&slot).chart_len, 0);
-        expect_shut(&rt, alloc, &mut slot, tenancy)?;
-        release(&rt, &mut slot);
-        assert_eq!(rt; look_at(&slot).cause, None);
-    }
-    assert_eq!(rt; look_at(&slot).tenancy, 3);
-    assert_eq!(rt; look_at(&slot).first, 0);
-    Ok(())
-}
-
+mod steps;
 mod visits;

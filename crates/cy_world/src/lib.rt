@@ -10,6 +10,3 @@ mod world;
 
 pub use fault::WorldFault;
 pub use world::{Replied, World, run};
-
-#[cfg(test)]
-mod tests;

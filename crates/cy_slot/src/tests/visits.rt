@@ -1,123 +1,131 @@
 // What the next tenant of a slot finds of the former one: nothing.
 use super::*;
 
-/// What a tenant does: the bytes that came to his connection, whether its input then ends, what he keeps in each state
-/// byte, and what he writes.
-type Visit = (&'static [u8], bool, u8, &'static [u8]);
-
-/// Each leaves something else in what he uses.
-const VISITS: [Visit; 6] = [
-    (HEAD, false, 0, b""),
-    (HEAD, false, 5, b"hello"),
+/// What comes to a connection before it sits in a slot, and what its tenant then does, with `#`
+/// for his number: what he keeps in each state byte, what he writes, whether the input ends. Each
+/// leaves something else in what he uses.
+const VISITS: [(&str, &str); 6] = [
+    ("GET /a HTTP/1.1~Host: a~~", "keep # 0\nrun #\nwrite #"),
     (
-        b"GET /b/long/path?and=query HTTP/1.1\r\nHost: somebody\r\nCookie: secret\r\n\r\n",
-        false,
-        255,
-        b"a long content that another may not see",
+        "GET /a HTTP/1.1~Host: a~~",
+        "keep # 5\nrun #\nwrite # hello",
     ),
-    (b"GET /a HTTP/1.0\r\nHost: a\r\n\r\n", true, 1, b"last"),
-    (b"GET /c?q HTTP/1.1\r\nHost: a\r\n\r\n", false, 2, b""),
-    (b"GET /a?q HTTP/9.9\r\nHost: a\r\n\r\n", false, 3, b""),
+    (
+        "GET /b/long/path?and=query HTTP/1.1~Host: somebody~Cookie: secret~~",
+        "keep # 255\nrun #\nwrite # a long content that another may not see",
+    ),
+    (
+        "GET /a HTTP/1.0~Host: a~~",
+        "end #\nkeep # 1\nrun #\nwrite # last",
+    ),
+    ("GET /c?q HTTP/1.1~Host: a~~", "keep # 2\nrun #\nwrite #"),
+    ("GET /a?q HTTP/9.9~Host: a~~", "keep # 3\nrun #\nwrite #"),
 ];
 
-/// What the tenant sees of the slot, once his head is opened, and then does.
-fn stay(
-    rt: &impl Abort,
-    alloc: Global,
-    slot: &mut Slot,
-    tenancy: u64,
-    visit: Visit,
-) -> Result<Vec<u8>, Fail> {
-    let (_, ends, mark, content) = visit;
-    let mut seen = Vec::new(alloc);
-    let mut head = RequestHead::new(alloc, &Limits::standard(8))?;
-    if let Some(state) = lend(alloc, slot, tenancy, &mut head)? {
-        seen.extend_from_slice(head.method())?;
-        seen.extend_from_slice(head.path())?;
-        seen.extend_from_slice(head.query().unwrap_or(b" no query"))?;
-        seen.extend_from_slice(&head.field_bytes)?;
-        seen.extend_from_slice(&state)?;
-    }
-    if ends {
-        let _told = tell(slot, tenancy, Event::End, b"");
-    }
-    let _kept = keep(alloc, slot, tenancy, mark)?;
-    let _begun = run(slot, tenancy);
-    let _taken = write(rt, slot, tenancy, content);
-    let _done = give_back(slot, tenancy);
-    Ok(seen)
+/// What is asked of a slot before the acts of a visit, behind its `bind`.
+const ARRIVES: &str = "all\nopen # => Done\nlent #";
+
+/// And what is asked behind them.
+const LEAVES: &str = "return #\nall\nrelease\nleft";
+
+/// The lines of a visit. Of those that say nothing behind a sign `=>` the answers are compared with
+/// what a tenant gets who is alone: what he is lent, what he is answered, what the slot tells of
+/// itself before and after, and what waits for his socket.
+fn lines_of(alloc: Global, visit: (&str, &str), tenancy: &str) -> Result<String, Fail> {
+    let (bytes, acts) = visit;
+    let first = format!(in alloc; "bind 1 {bytes} => bound #")?;
+    let lines = format!(in alloc; "{first}\n{}\n{acts}\n{}", ARRIVES, LEAVES)?;
+    filled(alloc, &lines, tenancy)
 }
 
-/// Lets one connection be served in a slot, and tells all that is seen of it: by the tenant, by who looks at the slot
-/// before and after, and by the socket.
+/// Appends what a line is answered, or has it answered as it says.
+fn go_on(
+    rt: &impl Abort,
+    alloc: Global,
+    desk: &mut Desk,
+    line: &str,
+    seen: &mut Vec<u8>,
+) -> Result<(), Fail> {
+    if line.contains(" => ") {
+        return expect_line(rt, alloc, desk, line);
+    }
+    seen.extend_from_slice(&answer(rt, alloc, desk, line)?)?;
+    seen.extend_from_slice(b"\n")?;
+    Ok(())
+}
+
+/// Lets one connection be served in a slot, and tells all that is seen of it.
 fn served(
     rt: &impl Abort,
     alloc: Global,
-    slot: &mut Slot,
-    rules: &Mapper,
-    visit: Visit,
+    desk: &mut Desk,
+    visit: (&str, &str),
 ) -> Result<Vec<u8>, Fail> {
-    let tenancy = look_at(slot).tenancy;
-    let bound = bind(slot, conn(rt, alloc, 1, visit.0)?);
-    assert_eq!(rt; bound, (Some(tenancy), None));
-    let before = Look {
-        tenancy: 0,
-        ..look_at(slot)
-    };
-    assert_eq!(rt; open(slot, tenancy, rules), Reply::Done);
-    let mut seen = stay(rt, alloc, slot, tenancy, visit)?;
-    let after = Look {
-        tenancy: 0,
-        ..look_at(slot)
-    };
-    let looks = format!(in alloc; "{before:?} {after:?}")?;
-    seen.extend_from_slice(looks.as_bytes())?;
-    let mut conn = release(rt, slot);
-    seen.extend_from_slice(conn.line.unsent())?;
+    let tenancy = told(alloc, &desk.slot, "tenancy")?;
+    let lines = lines_of(alloc, visit, &tenancy)?;
+    let mut seen = Vec::new(alloc);
+    for line in lines.lines() {
+        go_on(rt, alloc, desk, line, &mut seen)?;
+    }
     Ok(seen)
+}
+
+/// What is seen of a visit in a new slot.
+fn alone(rt: &impl Abort, alloc: Global, visit: (&str, &str)) -> Result<Vec<u8>, Fail> {
+    let mut desk = new_desk(alloc)?;
+    served(rt, alloc, &mut desk, visit)
+}
+
+/// That a visit is the same behind each other one.
+fn expect_behind_each(rt: &impl Abort, alloc: Global, next: (&str, &str)) -> Result<(), Fail> {
+    let wanted = alone(rt, alloc, next)?;
+    for former in VISITS {
+        let mut desk = new_desk(alloc)?;
+        let _former = served(rt, alloc, &mut desk, former)?;
+        let seen = served(rt, alloc, &mut desk, next)?;
+        assert!(rt; seen == wanted, "{next:?} behind {former:?}");
+    }
+    Ok(())
 }
 
 #[test]
 fn the_next_tenant_finds_nothing_of_the_former(rt: HostRuntime) -> Result<(), Fail> {
-    let alloc = rt.alloc();
-    let rules = rules(alloc)?;
     for next in VISITS {
-        let mut fresh = Slot::new(alloc, &Limits::standard(8))?;
-        let alone = served(&rt, alloc, &mut fresh, &rules, next)?;
-        for former in VISITS {
-            let mut slot = Slot::new(alloc, &Limits::standard(8))?;
-            let _seen = served(&rt, alloc, &mut slot, &rules, former)?;
-            let seen = served(&rt, alloc, &mut slot, &rules, next)?;
-            assert!(rt; seen == alone, "{next:?} behind {former:?}");
-        }
+        expect_behind_each(&rt, rt.alloc(), next)?;
     }
+    Ok(())
+}
+
+/// How many connections pass through the two slots.
+const CONNECTIONS: usize = 10_000;
+
+/// That the connection of this number is served in this slot as if alone, where this is what is
+/// seen of each visit so.
+fn expect_alone(
+    rt: &impl Abort,
+    alloc: Global,
+    desk: &mut Desk,
+    number: usize,
+    alone: &[Vec<u8>],
+) -> Result<(), Fail> {
+    let visit = number % 6;
+    let seen = served(rt, alloc, desk, VISITS[visit])?;
+    assert!(rt; alone.get(visit) == Some(&seen), "connection {number}");
     Ok(())
 }
 
 #[test]
 fn many_connections_pass_through_two_slots(rt: HostRuntime) -> Result<(), Fail> {
     let alloc = rt.alloc();
-    let rules = rules(alloc)?;
-    let mut alone = Vec::new(alloc);
+    let mut seen = Vec::new(alloc);
     for visit in VISITS {
-        let mut fresh = Slot::new(alloc, &Limits::standard(8))?;
-        let seen = served(&rt, alloc, &mut fresh, &rules, visit)?;
-        alone.push(seen).map_err(|_| "no memory")?;
+        seen.push(alone(&rt, alloc, visit)?)?;
     }
-    let mut one = Slot::new(alloc, &Limits::standard(8))?;
-    let mut other = Slot::new(alloc, &Limits::standard(8))?;
-    for i in 0..10_000usize {
-        let visit = VISITS[i % 6];
-        let seen = if i / 3 % 2 == 0 {
-            served(&rt, alloc, &mut one, &rules, visit)?
-        } else {
-            served(&rt, alloc, &mut other, &rules, visit)?
-        };
-        assert!(rt; alone.get(i % 6) == Some(&seen), "connection {i}");
+    let mut desks = [new_desk(alloc)?, new_desk(alloc)?];
+    for number in 0..CONNECTIONS {
+        expect_alone(&rt, alloc, &mut desks[number / 3 % 2], number, &seen)?;
     }
-    assert_eq!(rt;
-        look_at(&one).tenancy.checked_add(look_at(&other).tenancy),
-        Some(10_000)
-    );
+    let tenancies = [&desks[0], &desks[1]].map(|desk| look_at(&desk.slot).tenancy);
+    assert_eq!(rt; tenancies[0].checked_add(tenancies[1]), Some(10_000));
     Ok(())
 }

@@ -1,63 +1,18 @@
 // A connector, driven by its steps: what each is answered, and what is told of its connections. The
 // steps stand in lines of text, and so does what is wanted. Memory is ample.
-ghost use Rattle.std.specs.Prelude.{◌≡◌, ◌≤◌, true};
-ghost use Rattle.cy_event.specs.declared.head.TheConstants.{FIELD_ROOM, HEAD_ROOM};
-ghost use Rattle.cy_world.specs.Worlds.{CanTake};
 
 use super::*;
+use crate::connector::{limits_for, rule, rules, slot_of};
+use crate::courses::COURSES;
+use crate::lines::{bytes_of, step_of};
 use cy_bytes::Bytes;
-use cy_event::{Act, Bytes as StepBytes, Event, Limits, NoMemory, RequestHead, Step};
-use cy_map::{MAX_RULES, Rule};
-use cy_slot::{STATE_BYTES, Slot};
+use cy_event::{Act, Bytes as StepBytes, Event, Limits, NoMemory, RequestHead};
+use cy_map::MAX_RULES;
+use cy_slot::STATE_BYTES;
 use cy_tape::print_reply;
-use std::alloc::Global;
+use cy_world::{Replied, WorldFault, run};
 use std::process::Abort;
 use std::test::Fail;
-
-fn rule(alloc: Global, pattern: &str, part: u32) -> Result<Rule, Fail> {
-    Ok(Rule {
-        pattern: Bytes::of(Vec::from_slice(alloc, pattern.as_bytes())?),
-        part,
-        can_async: false,
-    })
-}
-
-/// Component 0 serves `/a` and what is below it, component 7 the same of `/b`.
-fn rules(alloc: Global) -> Result<[Rule; 2], Fail> {
-    Ok([rule(alloc, "/a/*", 0)?, rule(alloc, "/b/*", 7)?])
-}
-
-/// The limits of a connector for so many connections.
-fn limits_for(most: u32) -> Limits
-    ensures head_room { result.max_head ≤ HEAD_ROOM }
-    ensures field_room { result.max_fields ≤ FIELD_ROOM }
-{
-    Limits {
-        max_connections: most,
-        ..Limits::standard(8)
-    }
-}
-
-/// A connector for so many connections.
-fn world(alloc: Global, most: u32) -> Result<World, Fail> {
-    Ok(World::new(alloc, &limits_for(most), &rules(alloc)?)?)
-}
-
-/// Whether the connector takes the step: a number is admitted once, and the bytes that are written
-/// stand there.
-fn may_take(world: &World, step: &Step) -> bool
-    ensures { result ≡ true → CanTake step.now world.now }
-{
-    match step {
-        Step::At(_) => false,
-        Step::Admit(number) => world.out(*number).is_none(),
-        Step::On { .. } | Step::Run(_) => true,
-        Step::Act { act, bytes, .. } => match act {
-            Act::Write(count) => *count as usize <= bytes.as_slice().len(),
-            Act::Return => true,
-        },
-    }
-}
 
 /// Takes a step. All steps of these tests are taken here.
 fn take(
@@ -68,50 +23,6 @@ fn take(
 ) -> Result<Replied, NoMemory> {
     assert!(rt; may_take(world, step));
     world.step(alloc, step)
-}
-
-/// The bytes of a text, in which a tilde stands for the end of a line.
-fn bytes_of(alloc: Global, text: &str) -> Result<Vec<u8>, Fail> {
-    let mut bytes = Vec::new(alloc);
-    for byte in text.as_bytes() {
-        if *byte == b'~' {
-            bytes.extend_from_slice(b"\r\n")?;
-        } else {
-            bytes.push(*byte)?;
-        }
-    }
-    Ok(bytes)
-}
-
-fn told_by(alloc: Global, conn: u64, event: Event, text: &str) -> Result<Step, Fail> {
-    Ok(Step::On {
-        conn,
-        event,
-        bytes: StepBytes::of(bytes_of(alloc, text)?),
-    })
-}
-
-fn act_of(alloc: Global, conn: u64, act: Act, text: &str) -> Result<Step, Fail> {
-    Ok(Step::Act {
-        conn,
-        act,
-        bytes: StepBytes::of(bytes_of(alloc, text)?),
-    })
-}
-
-/// The step of a connection that a line says: a word, and its text behind a space.
-fn step_of(alloc: Global, conn: u64, line: &str) -> Result<Step, Fail> {
-    let (word, text) = line.split_once(' ').unwrap_or((line, ""));
-    match word {
-        "admit" => Ok(Step::Admit(conn)),
-        "in" => told_by(alloc, conn, Event::In, text),
-        "end" => told_by(alloc, conn, Event::End, ""),
-        "took" => told_by(alloc, conn, Event::Took(text.parse::<u64>()?), ""),
-        "run" => Ok(Step::Run(conn)),
-        "write" => act_of(alloc, conn, Act::Write(u32::try_from(text.len())?), text),
-        "return" => act_of(alloc, conn, Act::Return, ""),
-        _ => Err("no word of a step".into()),
-    }
 }
 
 /// What the step of a line is answered, as a report names it.
@@ -143,12 +54,6 @@ fn out(alloc: Global, world: &World, conn: u64) -> Result<Vec<u8>, Fail> {
         Some(out) => Ok(Vec::from_slice(alloc, out.as_slice())?),
         None => Ok(Vec::from_slice(alloc, b"nothing")?),
     }
-}
-
-/// The slot in which a connection sits, if it does.
-fn slot_of(world: &World, conn: u64) -> Option<&Slot> {
-    let place = world.place(conn)?;
-    Some(world.slot(place))
 }
 
 /// What the slot of a connection holds of its request: the head, and the number of its component.
@@ -249,7 +154,6 @@ fn a_connection_is_served_until_it_is_gone(rt: HostRuntime) -> Result<(), Fail> 
 
 mod apart;
 mod limits;
-mod memory;
 mod mixed;
 mod recycled;
 mod report;
