@@ -7,7 +7,7 @@ use std::alloc::Global;
 
 /// The bytes of a text, in which a tilde stands for the end of a line.
 pub fn bytes_of(alloc: Global, text: &str) -> Result<Vec<u8>> {
-    let mut bytes = Vec::new(alloc);
+    let mut bytes = Vec::with_capacity(alloc, text.len().saturating_mul(2))?;
     for byte in text.as_bytes() {
         if *byte == b'~' {
             bytes.extend_from_slice(b"\r\n")?;
