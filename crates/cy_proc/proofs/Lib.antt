@@ -1,3 +1,5 @@
+pub mod ShortBodies
+pub mod InRing
 pub mod Built
 pub mod Plain
 pub mod Lines
