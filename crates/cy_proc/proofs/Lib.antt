@@ -1,3 +1,5 @@
+pub mod Intakes
+pub mod Given
 pub mod ShortBodies
 pub mod InRing
 pub mod Built

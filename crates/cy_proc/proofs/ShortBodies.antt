@@ -56,8 +56,8 @@ unfolding IsShortResult IsShortFramed
 by_body minor options expectations (Err status) short = tt
 by_body minor options expectations (Ok body) short =
     elim (is_met minor expectations) as (λ v. IsShortFramed (if v
-      then Ok (record { body = body; keep = persists minor options; go_on = awaits_continue minor expectations body })
-      else Err expectation_failed)) [ true ↦ short | false ↦ tt ]
+    then Ok (record { body = body; keep = persists minor options; go_on = awaits_continue minor expectations body })
+    else Err expectation_failed)) [ true ↦ short | false ↦ tt ]
 
 all_short : (minor : ℕ) (fields : List Field) → IsShortFramed (framed minor fields)
 unfolding framed

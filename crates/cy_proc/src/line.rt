@@ -4,7 +4,7 @@ ghost use Rattle.std.specs.Prelude.{◌≡◌, ◌≤◌, ◌+◌, ◌++◌, ◌
 ghost use Rattle.cy_event.specs.declared.limits.TheConstants.{GREATEST_MOMENT};
 ghost use Rattle.cy_model.specs.Settling.{begin_bound, is_awaited, is_last_number};
 ghost use Rattle.cy_proc.specs.LineAnswers.{AnswersEachEvent, RestsEach};
-ghost use Rattle.cy_in.specs.Intakes.{IsShort, content_read, started};
+ghost use Rattle.cy_in.specs.Intakes.{IsShort, content_read, is_ready, started};
 ghost use Rattle.cy_in.specs.Reads.{reply_of_read};
 ghost use Rattle.cy_model.specs.Endings.{is_bad_request};
 ghost use Rattle.cy_event.specs.Answers.{after_put, content_buffer, error_answer, fresh_answer};
@@ -307,6 +307,14 @@ impl Line {
         let _found = self.body.swallow(&mut self.kit, &limits);
     }
 
+    /// Whether a read would give content of the open request, or tell its end.
+    pub(crate) fn is_ready(&self) -> bool
+        requires open { self.now.is_open ≡ true }
+        ensures { result ≡ is_ready self.now.body }
+    {
+        self.body.is_ready()
+    }
+
     /// Gives content of the open request to the front of `into`, as a read of as many bytes is answered.
     pub(crate) fn read(&mut self, into: &mut [u8]) -> Reply
         requires open { self.old.is_open ≡ true }
@@ -482,10 +490,7 @@ impl Line {
     pub(crate) fn is_bad_request(&self) -> bool
         ensures { result ≡ is_bad_request self.now.cause }
     {
-        matches!(
-            self.cause,
-            Some(CloseCause::BadBody | CloseCause::InputEnd)
-        )
+        matches!(self.cause, Some(CloseCause::BadBody | CloseCause::InputEnd))
     }
 
     /// What an answer says of the connection.

@@ -379,10 +379,11 @@ impl Processor {
         ensures line { line.new ≡ line_read self.old.limits (length into.old) line.old }
         ensures same { self.new ≡ self.old }
     {
-        let reply = line.read(into);
-        if reply != Reply::Again {
-            line.rest(&self.limits);
+        if !line.is_ready() {
+            return Reply::Again;
         }
+        let reply = line.read(into);
+        line.rest(&self.limits);
         reply
     }
 

@@ -16,18 +16,11 @@ use cy_target::read_target;
 #[derive(Clone, Copy, Debug, PartialEq, Eq)]
 pub enum Judgement {
     /// It is refused with this status.
-    TurnedAway {
-        status: u16,
-    },
+    TurnedAway { status: u16 },
     /// No rule serves its path.
-    Unserved {
-        framed: Framed,
-    },
+    Unserved { framed: Framed },
     /// A rule does.
-    Served {
-        found: Found,
-        framed: Framed,
-    },
+    Served { found: Found, framed: Framed },
 }
 
 pub(crate) const BAD_REQUEST: u16 = 400;

@@ -27,8 +27,7 @@ invariant_of-self c =
     let body = c.scan-found.ensures.after ∙ (λ i. after_scan c.scanning-limits.result.max_trailer (c.start.ensures i) (taken i)) in
     let within : c.args.size ≤ length l.kit.input = omega (arith, c.requires.within, waits) in
     let left = length-drop c.args.size l.kit.input in
-    let fewer = ap length input in
-    (
+    let fewer = ap length input in (
       omega (arith, v.0, c.requires.some, within, left, fewer),
       v.1,
       λ o. omega (arith, c.requires.room, unsent, output, begin_room c.args.go_on),

@@ -16,8 +16,7 @@ invariant_of-self c =
     let input = ap (λ (k : Rings). k.input) c.read.ensures.kit in
     let output = ap (λ (k : Rings). k.output) c.read.ensures.kit in
     let fewer = ap length input in
-    let left = length-drop (taken_by l.body c.read.new.self) l.kit.input in
-    (
+    let left = length-drop (taken_by l.body c.read.new.self) l.kit.input in (
       omega (arith, v.0, fewer, left),
       v.1,
       subst (λ (o : List ℕ). l.is_open ≡ true → length o ≤ open_bound) (sym output) v.2,

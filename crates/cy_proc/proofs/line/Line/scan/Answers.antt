@@ -13,8 +13,7 @@ invariant_of-self c =
     let body = c.scan-found.ensures.after in
     let kit = sym c.scan-found.ensures.kit in
     let l = c.self.inside in
-    let ring = in_ring_scan _ _ _ _ _ body v.4 in
-    (
+    let ring = in_ring_scan _ _ _ _ _ body v.4 in (
       subst (λ (k : Rings). l.begun + length k.input ≤ l.came) kit v.0,
       v.1,
       subst (λ (k : Rings). l.is_open ≡ true → length k.output ≤ open_bound) kit v.2,
