@@ -1,3 +1,4 @@
+pub mod LineInputs
 pub mod Intakes
 pub mod Given
 pub mod ShortBodies
