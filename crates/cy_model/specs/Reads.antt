@@ -17,8 +17,8 @@ reading_by n (b ∷ content) is_whole = content_read (take n (b ∷ content))
 reading_by n [] true = end_read
 reading_by n [] false = nothing_read
 
-abbrev pub reading_of : ℕ → Trace → Reading
-reading_of n T = reading_by n (waiting T) (has_whole_body T)
+abbrev pub reading_in : ℕ → Trace → Reading
+reading_in n T = reading_by n (waiting T) (has_whole_body T)
 
 -- its marks; none where it came to nothing
 abbrev pub reading_marks : Reading → Option (List Mark)

@@ -11,7 +11,7 @@ use Rattle.cy_model.specs.Folds.{begun_count, bytes_of, is_open, last_taken}
 use Rattle.cy_model.specs.Inputs.{behind_head, consumed, consumed_by, is_whole, scan_by, scan_of, unread, used, used_at_end}
 use Rattle.cy_model.specs.Marks.{TakenUp, Trace, began, came, over}
 use Rattle.cy_proc.specs.LineBodies.{IsGivenWithin, IsSoundInput, intake_of, max_trailer_by, passed_from, used_mark}
-use Rattle.cy_proc.specs.LineChanges.{after_begin, gone_on, passed_line, scanned_line, with_bytes}
+use Rattle.cy_proc.specs.LineChanges.{after_begin, gone_on, passed_line, scanned_line, with_more}
 use Rattle.cy_proc.specs.Lines.{LineParts, line_parts}
 use Rattle.cy_proc.proofs.Intakes.{came_passed, came_scanned, none_stays, rest_scanned, told_stays, unread_passed, unread_stays, used_is, used_stays, used_within, waits_fewer, whole_over}
 
@@ -40,7 +40,7 @@ module _ (t m : ℕ) (b : List ℕ) (T : Trace) (s : IsSoundInput T) where
   Came = (t, came b) ∷ T
 
   abbrev L : LineParts
-  L = with_bytes b (line_parts m T)
+  L = with_more b (line_parts m T)
 
   more_came : length (bytes_of T) + length b ≡ length (bytes_of T ++ b)
   more_came = sym (length-append (bytes_of T) b)

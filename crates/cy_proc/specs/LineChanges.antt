@@ -54,11 +54,11 @@ abbrev pub gone_on : LineParts → LineParts
 gone_on l = if l.is_open || l.begun == 0 then scanned_line l else passed_line l
 
 -- bytes come behind those that wait
-abbrev pub with_bytes : List ℕ → LineParts → LineParts
-with_bytes b l = record l { unread = l.unread ++ b; came = l.came + length b }
+abbrev pub with_more : List ℕ → LineParts → LineParts
+with_more b l = record l { unread = l.unread ++ b; came = l.came + length b }
 
 abbrev pub after_event : Event → List ℕ → LineParts → LineParts
-after_event event.In b l = gone_on (with_bytes (take (room_of l) b) l)
+after_event event.In b l = gone_on (with_more (take (room_of l) b) l)
 after_event event.End b l = record l { has_ended = true }
 after_event (event.Took n) b l = record l { unsent = drop (sent_from n l) l.unsent }
 

@@ -23,7 +23,7 @@ use Rattle.cy_model.specs.Entries.{after, on_act, reply_to}
 use Rattle.cy_model.specs.Inputs.{consumed, room, waiting}
 use Rattle.cy_model.specs.Marks.{Mark, Trace, back, began, broken, called, came, caused, end_given, ended, given}
 use Rattle.cy_model.specs.Marks.{input_side, opened, over, parked, read_listener_set, started}
-use Rattle.cy_model.specs.Reads.{Reading, content_read, end_read, nothing_read, reading_by, reading_marks, reading_of}
+use Rattle.cy_model.specs.Reads.{Reading, content_read, end_read, nothing_read, reading_by, reading_marks, reading_in}
 use Rattle.cy_model.specs.Reads.{reading_reply}
 use Rattle.cy_model.specs.Replies.{Replied, plain}
 use Rattle.cy_model.specs.Settling.{settled, with_marks}
@@ -111,7 +111,7 @@ serving f bytes = then (begun f bytes) (started (job.Service 0) ∷ called call.
 
 -- a read of ten bytes, behind so many that were given
 abbrev read_behind : Framing → List ℕ → ℕ → Reading
-read_behind f bytes n = reading_of 10 (then (serving f bytes) (given n ∷ []))
+read_behind f bytes n = reading_in 10 (then (serving f bytes) (given n ∷ []))
 
 a_part_of_a_length : map (read_behind (framing.Length 5) (codes "abc")) (0 ∷ 1 ∷ 3 ∷ [])
     ≡ content_read (codes "abc") ∷ content_read (codes "bc") ∷ nothing_read ∷ []
@@ -146,7 +146,7 @@ unfolding bodies_on_literals
 end_of_chunks = refl
 
 -- once it was told it is told again
-end_again : reading_of 10 (then (serving framing.Chunked (codes "0\r\n\r\n")) (end_given ∷ [])) ≡ end_read
+end_again : reading_in 10 (then (serving framing.Chunked (codes "0\r\n\r\n")) (end_given ∷ [])) ≡ end_read
 unfolding bodies_on_literals
 end_again = refl
 
