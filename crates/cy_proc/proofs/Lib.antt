@@ -1,3 +1,4 @@
+pub mod Rests
 pub mod LineInputs
 pub mod Intakes
 pub mod Given

@@ -2,15 +2,15 @@
 use Rattle.std.specs.Prelude.{◌≡◌, ◌≤◌, ℕ, ◌+◌, Bool, true, false, List, All, Option, None, Some, length}
 use Rattle.cy_event.specs.declared.steps.CloseCause.{CloseCause}
 use Rattle.cy_event.specs.Answers.{continue_text}
-use Rattle.cy_model.specs.Folds.{begun_count, bytes_of, cause_of, has_ended, is_open, last_taken}
+use Rattle.cy_model.specs.Folds.{begun_count, bytes_of, cause_of, has_ended, is_open}
 use Rattle.cy_model.specs.Endings.{is_bad_request}
-use Rattle.cy_model.specs.Inputs.{has_bad_body, has_whole_body, head_end, unread}
+use Rattle.cy_model.specs.Inputs.{has_bad_body, has_whole_body, unread}
 use Rattle.cy_model.specs.Outputs.{took, unsent, writing}
 use Rattle.cy_model.specs.Marks.{Mark, Trace}
 use Rattle.cy_model.specs.Settling.{begin_bound}
 use Rattle.cy_model.specs.Unbuilt.{NothingUnbuilt}
 use Rattle.cy_in.specs.Intakes.{Intake}
-use Rattle.cy_proc.specs.LineBodies.{intake_of}
+use Rattle.cy_proc.specs.LineBodies.{IsSoundInput, intake_of}
 
 pub record LineParts : Type 0 where
   -- the bytes that wait, how far the body of the last request came in them, how many came in all, and how many requests
@@ -59,7 +59,7 @@ pub record IsAtRest (T : Trace) : Type 0 where
 -- the heads stand in the bytes that came, the socket took what no longer waits, no mark stands that isn't built, and an
 -- open request has no cause to close but its body
 pub record IsSound (T : Trace) : Type 0 where
-  pub heads_came : head_end (last_taken T) ≤ length (bytes_of T)
+  pub input : IsSoundInput T
   pub took_past : took T ≡ length (writing T).past
   pub built : NothingUnbuilt T
   pub calm : is_open T ≡ true → is_body_cause (cause_of T) ≡ true
