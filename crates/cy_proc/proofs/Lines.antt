@@ -1,6 +1,6 @@
 -- The parts that follow each thing that happens stand for the trace that follows it.
 use Rattle.std.proofs.Common.{◌≡◌, ◌≤◌, ℕ, ◌+◌, ◌-◌, ◌==◌, Bool, true, false, not, ◌&&◌, ◌||◌, nat_le, nat_lt, ltb-true, is_none, is_some, List, [], ◌∷◌, ◌++◌, length, take, drop, max, Option, Some, None, refl, sym, ap, ◌∙◌, subst, arith, length-drop, length-append, length-take-le, if◌then◌else◌}
-use Rattle.std.proofs.lemmas.Bool.{and_parts}
+use Rattle.std.proofs.lemmas.Bool.{and_left}
 use Rattle.std.proofs.lemmas.List.Elements.{All-cons, All-weaker}
 use Rattle.cy_event.specs.declared.limits.Limits.{Limits}
 use Rattle.cy_event.specs.declared.steps.CloseCause.{CloseCause}
@@ -18,10 +18,10 @@ use Rattle.cy_model.specs.Inputs.{consumed, given_count, has_bad_body, has_whole
 use Rattle.cy_model.specs.Outputs.{answer_of, end_by, is_gone, sending_of, unsent, writing}
 use Rattle.cy_model.specs.Marks.{Mark, ended, came, sent, began, refused, over, caused, TakenUp, Trace}
 use Rattle.cy_event.specs.Answers.{Answer}
-use Rattle.cy_model.specs.Settling.{body_cause, body_cause_by, last_answer_marks, rested, swallow_place, with_marks}
+use Rattle.cy_model.specs.Settling.{body_cause, body_cause_by, front_of, is_awaited, last_answer_marks, may_begin, rested, swallow_place, with_marks}
 use Rattle.cy_model.specs.Unbuilt.{is_unbuilt_cause, is_unbuilt_request}
 use Rattle.cy_model.proofs.Built.{IsPlain, mark_plain, plain_of}
-use Rattle.cy_model.proofs.Moves.{may_begin-parts}
+use Rattle.cy_model.proofs.Gone.{open_may_not_begin}
 use Rattle.cy_proc.specs.LineBodies.{IsGivenWithin, IsSoundInput}
 use Rattle.cy_proc.specs.Lines.{IsAtRest, LineParts, line_parts, IsSound, NoneLater, Represents, is_body_cause}
 use Rattle.cy_proc.proofs.LineInputs.{began_input, began_parts, came_input, came_parts}
@@ -103,7 +103,7 @@ told_moment limits e b l =
 -- ---- events
 
 -- nothing of the input changes
-same_input : (T R : Trace) → IsSoundInput T → IsGivenWithin (last_taken R) (bytes_of R) (given_count R) → head_end (last_taken R) ≤ length (bytes_of R)
+pub same_input : (T R : Trace) → IsSoundInput T → IsGivenWithin (last_taken R) (bytes_of R) (given_count R) → head_end (last_taken R) ≤ length (bytes_of R)
     → (is_open R ≡ true → is_end_told R ≡ true → has_whole_body R ≡ true) → IsSoundInput R
 same_input T R i given heads told = record { heads_came = heads; given = given; told = told }
 
@@ -242,6 +242,27 @@ rest_by limits t m T (Some k) e by s =
 pub rest_stands : (limits : Limits) (t : ℕ) (T : Trace) (l : LineParts) → t ≤ l.moment → Holds T l → Represents (rested limits t T) (after_rest limits l)
 rest_stands limits t T l by s =
     at_held T l (λ k. Represents (rested limits t T) (after_rest limits k)) s (λ own. rest_by limits t l.moment T (cause_of T) refl by own)
+
+inside_false : (v w : Bool) → (v ≡ true → w ≡ true) → (v && not w) ≡ false
+inside_false true w whole = ap not (whole refl)
+inside_false false w whole = refl
+
+-- nothing is done while a request is open whose body is at rest
+pub rested_open : (limits : Limits) (t : ℕ) (T : Trace) (l : LineParts) → Represents T l → is_open T ≡ true → rested limits t T ≡ T
+rested_open limits t T l s o = by_cause (cause_of T) refl
+  where
+    none_now : IsAtRest T → cause_now limits T ≡ None
+    none_now rest =
+        let few = (λ i. nat_lt limits.max_swallow (if o i then 0 else used T - used_at_end T)) ∙ below_none limits.max_swallow in
+        let none : swallow_place limits T ≡ None = (λ i. if few i then Some (used_at_end T + limits.max_swallow) else None) in
+        let good = rest.good in
+        let inside = inside_false (has_ended T) (has_whole_body T) rest.goes_on in
+        let awaits = and_left (may_begin T) (has_ended T && is_awaited (front_of limits T)) (open_may_not_begin T o) in
+        λ i. pick (body_cause_by (if good i then Some (scan_of T).raw else None) (none i)) (inside i) (awaits i)
+
+    by_cause : (c : Option CloseCause) → cause_of T ≡ c → rested limits t T ≡ T
+    by_cause None e = rested_now limits t T (plainly T s.sound) e ∙ ap (with_cause t T) (none_now (s.at_rest o e))
+    by_cause (Some k) e = rested_closed limits t T (plainly T s.sound) (ap is_some e)
 
 -- ---- what the socket tells
 
