@@ -1,7 +1,7 @@
 #!/usr/bin/env python3
 """Makes rows of traces: each file of `cases/traces` is a connection with its marks and the values of its folds, made by
 another program. Each becomes a trace and equations that the prover computes: what the trace tells, how a request ends,
-what a tick does, what settling adds behind an entry, and which callback is next.
+what a tick does, what a read is answered, what settling adds behind an entry, and which callback is next.
 
 Usage: rows.py            whether the files of rows are those that the traces give
        rows.py --write    makes them anew
@@ -218,8 +218,8 @@ def values(folds, marks):
 # ---- the moves
 
 def is_built(m):
-    """Whether today's verdict takes the head up: none with a body, and none of HEAD."""
-    return m["mark"] != "Begin" or (m["framing"][0] == "None" and unquoted(m["method"]) != list(b"HEAD"))
+    """Whether today's verdict takes the head up: none of HEAD."""
+    return m["mark"] != "Begin" or unquoted(m["method"]) != list(b"HEAD")
 
 
 CALLING = ("service", "again", "readable", "allread", "writable")
@@ -294,6 +294,21 @@ def moves(name, entry, limits, callback, before, behind):
         yield f"settled {name}_limits {name}_rules {marks[0]['at']} ({marked(limits, marks[:count], before)})", behind
 
 
+def replied(reply):
+    """What a read is answered, with the content that it gives."""
+    if not reply.startswith("Got "):
+        return f"plain reply.{reply}"
+    content = reply.removeprefix("Got ")
+    return f"record {{ reply = reply.Got {len(unquoted(content))}; got = {text(content)} }}"
+
+
+def reads(name, entry, before):
+    """What a read is answered: it does not hang on the moment."""
+    words = entry["step"].split()
+    if words[0] == "act" and words[2] == "read":
+        yield f"reply_to {name}_limits {name}_rules 0 {before} (on_act (act.Read {words[3]}) [])", replied(entry["reply"])
+
+
 def limits_of(limits):
     kept = dict(limits)
     kept["max_keep_alive"] = f"pos {limits['max_keep_alive']}" if limits["max_keep_alive"] >= 0 else f"negsuc {-limits['max_keep_alive'] - 1}"
@@ -328,7 +343,8 @@ def row(number, trace):
     for word, told in values(trace["folds"], [m for e in entries for m in e["marks"]]):
         lines += equation(f"{name}-{word.split('_')[0]}", f"{word} {before}", told)
     for k, entry in enumerate(entries):
-        for word, value in moves(name, entry, limits, callback_in(entries[:k]), names[k], names[k + 1]):
+        told = [*reads(name, entry, names[k]), *moves(name, entry, limits, callback_in(entries[:k]), names[k], names[k + 1])]
+        for word, value in told:
             lines += equation(f"{name}-{k + 1:02}-{word.split('_')[0].split()[0]}", word, [value])
     return "\n".join(lines)
 
@@ -395,6 +411,7 @@ UNFOLDED = [
     ("settled", f"settled {WRITTEN} trimmed front_length whole_head host_fits head_of verdict_of target_of framed is_utf8 chars encode"),
     ("connection_told|open_told|next_job|tick_move|end_marks", WRITTEN),
     ("request_told", "is_name_byte"),
+    ("reply_to", f"reply_to {WRITTEN}"),
     ("answer_told", "digits"),
 ]
 
@@ -406,9 +423,11 @@ use Rattle.std.specs.Str.{is_utf8, chars}
 use lib.Utf8.{encode}
 use Rattle.cy_event.specs.declared.framing.Framing.TheVariants as framing
 use Rattle.cy_event.specs.declared.limits.Limits.{Limits}
+use Rattle.cy_event.specs.declared.steps.Act.TheVariants as act
 use Rattle.cy_event.specs.declared.steps.Call.TheVariants as call
 use Rattle.cy_event.specs.declared.steps.CloseCause.TheVariants as cause
 use Rattle.cy_event.specs.declared.steps.Job.TheVariants as job
+use Rattle.cy_event.specs.declared.steps.Reply.TheVariants as reply
 use Rattle.cy_event.specs.declared.steps.State.TheVariants as state
 use Rattle.cy_event.specs.Answers.{head_text}
 use Rattle.cy_event.specs.Dates.{date_at, count_off}
@@ -417,8 +436,10 @@ use Rattle.cy_event.specs.Heads.{is_name_byte, trimmed, front_length, whole_head
 use Rattle.cy_event.specs.Targets.{target_of}
 use Rattle.cy_map.specs.declared.rule.Rule.{Rule}
 use Rattle.cy_model.specs.Endings.{end_marks}
+use Rattle.cy_model.specs.Entries.{on_act, reply_to}
 use Rattle.cy_model.specs.Jobs.{next_job}
 use Rattle.cy_model.specs.Marks.{Trace, input_side, output_side, opened, ended, came, sent, began, refused, called, started, parked, back, given, end_given, listened, timeout_set, read_listener_set, write_listener_set, not_ready, status_set, field_added, length_set, answer_reset, put, flushed, nothing_to_flush, error_answer, aborted, over, caused, broken}
+use Rattle.cy_model.specs.Replies.{plain}
 use Rattle.cy_model.specs.Settling.{settled}
 use Rattle.cy_model.specs.Ticks.{tick_move}
 use Rattle.cy_model.specs.Verdicts.{verdict_of}

@@ -50,6 +50,8 @@ pub enum Event {
 /// What a running callback does. The bytes that an act counts stand beside it, and are its first ones.
 #[derive(Clone, Copy, Debug, PartialEq, Eq)]
 pub enum Act {
+    /// Reads at most so many bytes of the content of the request.
+    Read(u32),
     /// Writes so many bytes of content.
     Write(u32),
     /// Returns from the callback.

@@ -119,6 +119,21 @@ impl BodyIn {
         }
     }
 
+    /// What all that was scanned is.
+    pub fn found(&self) -> Scan
+        ensures { result ≡ scan_answer self.now }
+    {
+        scan_at(self.scanned)
+    }
+
+    /// How many bytes were swallowed.
+    pub fn swallowed(&self) -> u64
+        ensures { result ≡ swallowed self.now }
+    {
+        let from = self.swallowed_from.unwrap_or(self.taken.raw);
+        self.taken.raw.saturating_sub(from)
+    }
+
     fn at_start(body: Framing) -> BodyIn
         ensures { result ≡ started body }
     {

@@ -1,40 +1,26 @@
 -- What holds of a trace in which nothing stands that isn't built yet, and that the trace of any entries is such a one.
-use Rattle.std.proofs.Common.{◌≡◌, ℕ, ltb-true, ◌+◌, ◌-◌, Bool, true, false, not, ◌&&◌, ◌||◌, List, [], ◌∷◌, ◌++◌, Option, Some, None, is_none, is_some, option_map, cond, refl, sym, ap, ◌∙◌, subst, arith, nat_lt, if◌then◌else◌}
+use Rattle.std.proofs.Common.{◌≡◌, ℕ, ◌+◌, ◌-◌, Bool, true, false, ◌&&◌, List, [], ◌∷◌, ◌++◌, Option, Some, None, is_none, is_some, option_map, cond, refl, sym, ap, ◌∙◌, if◌then◌else◌}
 use Rattle.std.proofs.lemmas.Bool.{and_parts}
-use Rattle.cy_event.specs.declared.body.BodyMark.{BodyMark}
-use Rattle.cy_event.specs.declared.framing.Framing.{Framing}
-use Rattle.cy_event.specs.declared.framing.Framing.TheVariants as framing
-use Rattle.cy_event.specs.declared.limits.Limits.{Limits}
 use Rattle.cy_event.specs.declared.steps.Call.{Call}
 use Rattle.cy_event.specs.declared.steps.Call.TheVariants as call
 use Rattle.cy_event.specs.declared.steps.CloseCause.{CloseCause}
-use Rattle.cy_event.specs.declared.steps.CloseCause.TheVariants.{InputEnd}
 use Rattle.cy_event.specs.declared.steps.Job.{Job}
 use Rattle.cy_event.specs.declared.steps.Job.TheVariants as job
 use Rattle.cy_event.specs.declared.steps.State.{State}
 use Rattle.cy_event.specs.declared.steps.State.TheVariants as state
 use Rattle.cy_event.specs.Answers.{Answer}
 use Rattle.cy_event.specs.Answering.{Answering, Commit, Sending, Took, after_finish, can_take, cut, is_buffer_full, is_short, mode_in, more_by, push_byte, push_bytes, set_length_of, whole_length_of, with_head, with_room}
-use Rattle.cy_event.specs.Bodies.{body_start}
 use Rattle.cy_event.specs.Callbacks.{Context, is_owed_to_listener, no_context}
 use Rattle.cy_event.specs.ReadyListeners.{no_listeners}
 use Rattle.cy_event.specs.Table.{next_state, row}
 use Rattle.cy_event.specs.Framings.{bad_request}
-use Rattle.cy_model.specs.Endings.{cause_behind, cause_marks, closing_marks_by, end_marks, ends_closed, ends_short, failure_marks, finished_answer, hears_fault, is_bad_request}
-use Rattle.cy_model.specs.Folds.{after_call_at, after_started, bytes_of, cause_of, context_of, has_ended, is_broken, is_open, is_served, last_taken, parked_callback, part_of, ready_listeners, running, state_of}
-use Rattle.cy_model.specs.Inputs.{behind_head, given_count, has_bad_body, has_whole_body, is_end_told, scan_by, scan_of, swallowed, used, used_at_end, used_by_given}
+use Rattle.cy_model.specs.Endings.{cause_behind, closing_marks_by, end_marks, ends_closed, ends_short, error_marks, finished_answer, hears_fault, is_bad_request}
+use Rattle.cy_model.specs.Folds.{after_call_at, after_started, cause_of, context_of, is_broken, is_open, is_served, parked_callback, part_of, ready_listeners, running, state_of}
 use Rattle.cy_model.specs.Jobs.{asking, first_job, first_owed, job_owed, next_job, ready_in, resumed, service_in}
-use Rattle.cy_model.specs.Marks.{Mark, TakenUp, Trace, began, refused, called, started, parked, back, given, end_given, listened, timeout_set, read_listener_set, write_listener_set, not_ready, length_set, answer_reset, put, flushed, error_answer, aborted, over, broken}
-use Rattle.cy_model.specs.Outputs.{answer_of, answering_of, end_by, is_aborted, is_silent, said_by, sending_of}
-use Rattle.cy_model.specs.Settling.{body_cause, body_cause_by, body_move, cause_and_fault, input_move, is_quiet, return_marks_in, return_move}
+use Rattle.cy_model.specs.Marks.{Mark, Trace, began, refused, called, started, parked, back, listened, timeout_set, read_listener_set, write_listener_set, not_ready, length_set, answer_reset, put, flushed, error_answer, aborted, over, broken}
+use Rattle.cy_model.specs.Outputs.{answer_of, answering_of, end_by, is_aborted, is_committed, is_silent, said_by, sending_of}
+use Rattle.cy_model.specs.Settling.{is_quiet, return_marks_in, return_move}
 use Rattle.cy_model.specs.Unbuilt.{NothingUnbuilt, is_unbuilt_mark, is_unbuilt_call, is_unbuilt_job}
-use Rattle.cy_model.specs.Verdicts.{is_framed, is_head_method}
-use Rattle.cy_model.proofs.Places.{whole_stays}
-
--- the request has no body
-abbrev pub HasNoBody : Option TakenUp → Type 0
-HasNoBody None = Unit {0}
-HasNoBody (Some r) = r.framing ≡ framing.None
 
 pub record IsPlain (T : Trace) : Type 0 where
   pub here : state_of T ≡ state.Dispatched
@@ -43,21 +29,7 @@ pub record IsPlain (T : Trace) : Type 0 where
   pub parked : parked_callback T ≡ None
   pub whole : is_broken T ≡ false
   pub going : is_aborted T ≡ false
-  pub bodiless : HasNoBody (last_taken T)
-  pub given : given_count T ≡ 0
-  pub told : is_end_told T ≡ false
   pub unset : (sending_of T).left ≡ None
-
--- ---- tests
-
-or_false : (a b : Bool) → (a || b) ≡ false → a ≡ false
-or_false true b e = cc
-or_false false b e = refl
-
-unframed : (f : Framing) → is_framed f ≡ false → f ≡ framing.None
-unframed framing.None e = refl
-unframed (framing.Length n) e = cc
-unframed framing.Chunked e = cc
 
 -- ---- calls and callbacks
 
@@ -121,18 +93,14 @@ end_left false head t cause a e = finish_left head t (said_by cause a) (said_lef
 
 module _ (t : ℕ) (T : Trace) (p : IsPlain T) where
   same_plain : (R : Trace) → state_of R ≡ state_of T → context_of R ≡ context_of T → ready_listeners R ≡ ready_listeners T
-      → parked_callback R ≡ None → is_broken R ≡ is_broken T → is_aborted R ≡ is_aborted T → last_taken R ≡ last_taken T
-      → given_count R ≡ given_count T → is_end_told R ≡ is_end_told T → (sending_of R).left ≡ None → IsPlain R
-  same_plain R s c l k b a q g o u = record {
+      → parked_callback R ≡ None → is_broken R ≡ is_broken T → is_aborted R ≡ is_aborted T → (sending_of R).left ≡ None → IsPlain R
+  same_plain R s c l k b a u = record {
     here = s ∙ p.here;
     context = c ∙ p.context;
     listeners = l ∙ p.listeners;
     parked = k;
     whole = b ∙ p.whole;
     going = a ∙ p.going;
-    bodiless = subst HasNoBody (sym q) p.bodiless;
-    given = g ∙ p.given;
-    told = o ∙ p.told;
     unset = u;
   }
 
@@ -144,9 +112,6 @@ module _ (t : ℕ) (T : Trace) (p : IsPlain T) where
     parked = refl;
     whole = p.whole;
     going = refl;
-    bodiless = unframed r.framing (or_false (is_framed r.framing) (is_head_method r.head) e);
-    given = refl;
-    told = refl;
     unset = refl;
   }
   mark_plain (refused status to_head) e = record {
@@ -156,26 +121,21 @@ module _ (t : ℕ) (T : Trace) (p : IsPlain T) where
     parked = refl;
     whole = p.whole;
     going = refl;
-    bodiless = p.bodiless;
-    given = p.given;
-    told = p.told;
     unset = refl;
   }
   mark_plain (called k part) e =
-      same_plain ((t, called k part) ∷ T) (call_stays k (state_of T) e p.here ∙ sym p.here) (call_context t k T (context_of T) e p.here) refl p.parked refl refl refl refl refl p.unset
-  mark_plain (started (job.Service n)) e = same_plain ((t, started (job.Service n)) ∷ T) refl refl refl refl refl refl refl refl refl p.unset
+      same_plain ((t, called k part) ∷ T) (call_stays k (state_of T) e p.here ∙ sym p.here) (call_context t k T (context_of T) e p.here) refl p.parked refl refl p.unset
+  mark_plain (started (job.Service n)) e = same_plain ((t, started (job.Service n)) ∷ T) refl refl refl refl refl refl p.unset
   mark_plain (started j) e = cc
   mark_plain (parked side) e = cc
-  mark_plain back e = same_plain ((t, back) ∷ T) refl refl refl refl refl refl refl refl refl p.unset
+  mark_plain back e = same_plain ((t, back) ∷ T) refl refl refl refl refl refl p.unset
   mark_plain over e =
-      same_plain ((t, over) ∷ T) refl refl refl refl refl refl refl refl refl
+      same_plain ((t, over) ∷ T) refl refl refl refl refl refl
       (end_left (is_silent T) (answer_of T) t (cause_of T) (answering_of T) p.unset)
   mark_plain (put b) e =
-      same_plain ((t, put b) ∷ T) refl refl refl p.parked refl refl refl refl refl
+      same_plain ((t, put b) ∷ T) refl refl refl p.parked refl refl
       (push_left (answer_of T) t b (said_by (cause_of T) (answering_of T)) (said_left (cause_of T) (answering_of T) p.unset))
-  mark_plain (error_answer status) e = same_plain ((t, error_answer status) ∷ T) refl refl refl p.parked refl refl refl refl refl refl
-  mark_plain (given n) e = cc
-  mark_plain end_given e = cc
+  mark_plain (error_answer status) e = same_plain ((t, error_answer status) ∷ T) refl refl refl p.parked refl refl refl
   mark_plain flushed e = cc
   mark_plain (length_set n) e = cc
   mark_plain answer_reset e = cc
@@ -186,54 +146,11 @@ module _ (t : ℕ) (T : Trace) (p : IsPlain T) where
   mark_plain (not_ready side) e = cc
   mark_plain aborted e = cc
   mark_plain broken e = cc
-  mark_plain m e = same_plain ((t, m) ∷ T) refl refl refl p.parked refl refl refl refl refl p.unset
+  mark_plain m e = same_plain ((t, m) ∷ T) refl refl refl p.parked refl refl p.unset
 
 pub plain_of : (T : Trace) → NothingUnbuilt T → IsPlain T
-plain_of [] a = record { here = refl; context = refl; listeners = refl; parked = refl; whole = refl; going = refl; bodiless = tt; given = refl; told = refl; unset = refl }
+plain_of [] a = record { here = refl; context = refl; listeners = refl; parked = refl; whole = refl; going = refl; unset = refl }
 plain_of ((t, m) ∷ T) a = mark_plain t T (plain_of T a.1) m a.0
-
--- ---- bodies
-
--- nothing is a body
-pub no_body : (T : Trace) → IsPlain T → scan_of T ≡ body_start framing.None
-no_body T p = by_last (last_taken T) p.bodiless
-  where
-    by_last : (o : Option TakenUp) → HasNoBody o → scan_by o (bytes_of T) ≡ body_start framing.None
-    by_last None none = refl
-    by_last (Some r) none =
-        ap (λ (f : Framing). scan_by (Some (record r { framing = f })) (bytes_of T)) none
-        ∙ whole_stays r.max_trailer (body_start framing.None) (behind_head (bytes_of T) r) refl
-
-pub has_whole : (T : Trace) → IsPlain T → has_whole_body T ≡ true
-has_whole T p = rw (no_body T p, has_whole_body) refl
-
-nothing_given : (o : Option TakenUp) (bytes : List ℕ) → used_by_given o bytes 0 ≡ 0
-nothing_given None bytes = refl
-nothing_given (Some r) bytes = refl
-
-pub nothing_used : (T : Trace) → IsPlain T → used T ≡ 0
-nothing_used T p =
-    elim (is_open T && not (is_end_told T)) as (λ v. (if v then used_by_given (last_taken T) (bytes_of T) (given_count T) else (scan_of T).raw) ≡ 0) [
-      | true ↦ ap (used_by_given (last_taken T) (bytes_of T)) p.given ∙ nothing_given (last_taken T) (bytes_of T)
-      | false ↦ ap (λ (m : BodyMark). m.raw) (no_body T p)
-    ]
-
-nothing_swallowed : (T : Trace) → IsPlain T → swallowed T ≡ 0
-nothing_swallowed T p =
-    elim (is_open T) as (λ v. (if v then 0 else used T - used_at_end T) ≡ 0) [
-      | true ↦ refl
-      | false ↦ omega (arith, nothing_used T p)
-    ]
-
--- so no body is a cause to close
-pub no_body_cause : (limits : Limits) (T : Trace) → IsPlain T → body_cause limits T ≡ None
-no_body_cause limits T p =
-    let good : has_bad_body T ≡ false = rw (no_body T p, has_bad_body) refl in
-    let few : nat_lt limits.max_swallow (swallowed T) ≡ false = rw (nothing_swallowed T p) (below_none limits.max_swallow) in
-    (λ i. body_cause_by (if good i then Some (scan_of T).raw else None) (if few i then Some (used_at_end T + limits.max_swallow) else None))
-  where
-    below_none : (n : ℕ) → nat_lt n 0 ≡ false
-    below_none n = elim (nat_lt n 0) as (λ v. nat_lt n 0 ≡ v → v ≡ false) [ true ↦ λ e. absurd (omega (arith, ltb-true n 0 e)) | false ↦ λ e. refl ] refl
 
 -- ---- callbacks
 
@@ -285,33 +202,24 @@ no_length : (T : Trace) → IsPlain T → ends_short T ≡ false
 no_length T p =
     ap (λ (o : Option ℕ). is_short (mode_in (finished_answer T)) o) (end_left false (answer_of T) 0 (cause_of T) (answering_of T) p.unset)
 
--- an answer is whole, and its end may be the last that the connection has
-pub plain_end : (T : Trace) → IsPlain T → cause_of T ≡ None → end_marks T ≡ over ∷ cause_marks (cause_behind false false (ends_closed T))
-plain_end T p none =
+-- the answer of a request whose body was none is replaced
+abbrev pub error_before : Option CloseCause → List Mark
+error_before cause = if is_bad_request cause then error_answer bad_request ∷ [] else []
+
+-- an answer of which nothing is out is whole, and its end may be the last that the connection has
+pub plain_end : (T : Trace) → IsPlain T → is_committed T ≡ false
+    → end_marks T ≡ error_before (cause_of T) ++ over ∷ closing_marks_by (cause_of T) (cause_behind false false (ends_closed T))
+plain_end T p uncut =
     let going = p.going in
     let whole = no_length T p in
-    λ i. (if is_bad_request (none i) then failure_marks bad_request T else [])
-    ++ over ∷ closing_marks_by (none i) (cause_behind (going i) (whole i) (ends_closed T))
+    λ i. (if is_bad_request (cause_of T) then error_marks (uncut i) bad_request else [])
+    ++ over ∷ closing_marks_by (cause_of T) (cause_behind (going i) (whole i) (ends_closed T))
 
 -- ---- moves
 
 none_either : {X : Type 0} (v : Bool) (o : Option X) → o ≡ None → (if v then o else None) ≡ None
 none_either true o e = e
 none_either false o e = refl
-
-pub plain_body : (limits : Limits) (T : Trace) → IsPlain T → body_move limits T ≡ None
-plain_body limits T p =
-    none_either (is_none (cause_of T)) (option_map (cause_and_fault T) (body_cause limits T)) (ap (option_map (cause_and_fault T)) (no_body_cause limits T p))
-
-pub plain_input : (T : Trace) → IsPlain T → input_move T ≡ None
-plain_input T p =
-    elim (is_none (cause_of T)) as (λ v. (if v && (has_ended T && not (has_whole_body T)) then Some (cause_and_fault T InputEnd) else None) ≡ None) [
-      | true ↦ elim (has_ended T) as (λ v. (if v && not (has_whole_body T) then Some (cause_and_fault T InputEnd) else None) ≡ None) [
-        | true ↦ ap (λ (v : Bool). if not v then Some (cause_and_fault T InputEnd) else None) (has_whole T p)
-        | false ↦ refl
-      ]
-      | false ↦ refl
-    ]
 
 pub plain_return : (T : Trace) → IsPlain T → return_move T ≡ None
 plain_return T p =

@@ -13,12 +13,12 @@ use Rattle.cy_model.specs.Endings.{end_marks, hears_fault, server_error}
 use Rattle.cy_model.specs.Entries.{Entry, is_closed_to, job_marks, return_marks, trace_of}
 use Rattle.cy_model.specs.Folds.{running}
 use Rattle.cy_model.specs.Jobs.{next_job}
-use Rattle.cy_model.specs.Marks.{opened, ended, came, sent, began, refused, called, put, error_answer, aborted, caused, TakenUp, Trace}
+use Rattle.cy_model.specs.Marks.{opened, ended, end_given, came, given, sent, began, refused, called, put, error_answer, aborted, caused, TakenUp, Trace}
 use Rattle.cy_model.specs.Outputs.{answer_of}
 use Rattle.cy_model.specs.Settling.{due_of, may_begin, not_found, refusal, request, with_marks}
 use Rattle.cy_model.proofs.BuiltKept.{IsBuilt, built_kept, nothing_built}
 use Rattle.cy_model.proofs.Moves.{IsCauseMove, IsEndMove}
-use Rattle.cy_model.proofs.TraceInduction.{IsKept, IsQuietIn, IsTakenAt, not_found_marks, trace_keeps, went_on}
+use Rattle.cy_model.proofs.TraceInduction.{IsKept, IsQuietIn, IsTakenAt, MayGive, MayTellEnd, not_found_marks, trace_keeps, went_on}
 
 -- the marks of each thing that happens keep this
 pub record IsKeptWhereBuilt (limits : Limits) (rules : List Rule) (P : Trace → Type 0) : Type 0 where
@@ -45,6 +45,9 @@ pub record IsKeptWhereBuilt (limits : Limits) (rules : List Rule) (P : Trace →
       → P ((t, began r) ∷ T)
   -- callbacks
   pub serves : (t : ℕ) (j : Job) (T : Trace) → next_job T ≡ Some j → IsBuilt T → P T → P (with_marks t (job_marks (Some j)) T)
+  -- content is delivered, or its end is told
+  pub gives : (t : ℕ) (j : Job) (n : ℕ) (T : Trace) → running T ≡ Some j → MayGive n T → IsBuilt T → P T → P ((t, given n) ∷ T)
+  pub tells_end : (t : ℕ) (j : Job) (T : Trace) → running T ≡ Some j → MayTellEnd T → IsBuilt T → P T → P ((t, end_given) ∷ T)
   -- as much content as the buffer has room for
   pub puts : (t : ℕ) (j : Job) (b : List ℕ) (T : Trace) → running T ≡ Some j → length b ≤ content_buffer - length (answer_of T).content → IsBuilt T → P T → P ((t, put b) ∷ T)
   pub returns : (t : ℕ) (j : Job) (T : Trace) → running T ≡ Some j → IsBuilt T → P T → P (with_marks t (return_marks T) T)
@@ -67,6 +70,8 @@ built_too limits rules P k = let b = built_kept limits rules in record {
   finds_none = λ t r T may at due p. (b.finds_none t r T may at due p.0, k.finds_none t r T may at due p.0 p.1);
   begins = λ t r T may at due p. (b.begins t r T may at due p.0, k.begins t r T may at due p.0 p.1);
   serves = λ t j T e p. (b.serves t j T e p.0, k.serves t j T e p.0 p.1);
+  gives = λ t j n T e may p. (b.gives t j n T e may p.0, k.gives t j n T e may p.0 p.1);
+  tells_end = λ t j T e may p. (b.tells_end t j T e may p.0, k.tells_end t j T e may p.0 p.1);
   puts = λ t j x T e few p. (b.puts t j x T e few p.0, k.puts t j x T e few p.0 p.1);
   returns = λ t j T e p. (b.returns t j T e p.0, k.returns t j T e p.0 p.1);
 }

@@ -95,6 +95,8 @@ ends_kept limits rules = record {
       job_begins Ends t j T
       (λ q. stays_open T ((t, started j) ∷ T) refl k.turns refl refl open_now k)
       (λ q. stays_open T ((t, called call.Run None) ∷ (t, started j) ∷ T) refl k.turns refl refl open_now k);
+  gives = λ t j n T e may k. record { turns = k.turns; closed = k.closed; goes_on = k.goes_on };
+  tells_end = λ t j T e may k. record { turns = k.turns; closed = k.closed; goes_on = k.goes_on };
   puts = λ t j b T e few k. record { turns = k.turns; closed = k.closed; goes_on = k.goes_on };
   returns = λ t j T e k.
       let open_now = runs_open T j k e in
@@ -247,6 +249,14 @@ refuses_kept limits rules =
       serves = λ t j T e r. record {
         ends = k.serves t j T e r.ends;
         told = λ c. absurd (job_begins IsNotRefused t j T (λ q. open_told limits rules T r (owed_open T j e)) (λ q. open_told limits rules T r (owed_open T j e)) c);
+      };
+      gives = λ t j n T e may r. record {
+        ends = k.gives t j n T e may r.ends;
+        told = λ c. absurd (open_told limits rules T r (runs_open T j r.ends e) c);
+      };
+      tells_end = λ t j T e may r. record {
+        ends = k.tells_end t j T e may r.ends;
+        told = λ c. absurd (open_told limits rules T r (runs_open T j r.ends e) c);
       };
       puts = λ t j b T e few r. record {
         ends = k.puts t j b T e few r.ends;

@@ -19,7 +19,7 @@ use Rattle.cy_model.proofs.TraceInduction.{IsTakenAt, trace_keeps}
 -- the head has this framing, and isn't one that isn't served yet
 record HasFraming (head : Head) (f : Framed) : Type 0 where
   framed_so : framed head.minor head.fields ≡ Ok f
-  built : is_unbuilt head f ≡ false
+  built : is_unbuilt head ≡ false
 
 IsSoFramed : Head → Verdict → Type 0
 IsSoFramed head (turned_away status) = Unit {0}
@@ -36,7 +36,7 @@ framing_framed : (rules : List Rule) (head : Head) (path : List ℕ) (x : Result
 unfolding IsSoFramed
 framing_framed rules head path (Err status) e = tt
 framing_framed rules head path (Ok f) e =
-    elim (is_unbuilt head f) as (λ v. is_unbuilt head f ≡ v → IsSoFramed head (if v then turned_away not_implemented else by_rule f (mapped rules path))) [
+    elim (is_unbuilt head) as (λ v. is_unbuilt head ≡ v → IsSoFramed head (if v then turned_away not_implemented else by_rule f (mapped rules path))) [
       | true ↦ λ q. tt
       | false ↦ λ q. rule_framed head f (mapped rules path) (record { framed_so = e; built = q })
     ] refl

@@ -13,7 +13,6 @@ use Rattle.cy_model.specs.Laws.{GoneStaysGone, StaysGone}
 use Rattle.cy_model.specs.Marks.{opened, caused, Trace}
 use Rattle.cy_model.specs.Outputs.{is_gone, output, unsent}
 use Rattle.cy_model.specs.Settling.{after_move, begin_bound, body_cause, body_move, cause_and_fault, due_move, due_of, end_move, first_move, front_of, head_move, input_move, is_awaited, is_quiet, may_begin, next_move, return_marks_in, return_move, settled}
-use Rattle.cy_model.proofs.Built.{IsPlain, plain_body, plain_input, plain_return}
 use Rattle.cy_model.proofs.Moves.{false_where}
 use Rattle.cy_model.proofs.Settlings.{settled-done}
 
@@ -55,12 +54,6 @@ closed_still limits rules T cause_set closed =
     (ap (λ (v : Bool). if v && (has_ended T && not (has_whole_body T)) then Some (cause_and_fault T InputEnd) else None) set)
     (ap (λ (v : Bool). if v && is_quiet T then return_marks_in (state_of T) T else None) closed)
     (no_end limits T may) (no_head limits rules T may)
-
--- a request without a body is open, whose callback may run
-pub open_still : (limits : Limits) (rules : List Rule) (T : Trace) → IsPlain T → is_open T ≡ true → next_move limits rules T ≡ None
-open_still limits rules T p open_now =
-    let may = open_may_not_begin T open_now in
-    all_still limits rules T (plain_body limits T p) (plain_input T p) (plain_return T p) (no_end limits T may) (no_head limits rules T may)
 
 -- ---- where it is gone
 

@@ -141,6 +141,8 @@ charted_kept limits rules = record {
       let service = service_owed T j (plainly T b) e in
       subst (λ (i : Job). Charted (with_marks t (job_marks (Some i)) T)) (sym service.1)
       (served_charted t service.0 T (owed_open T j e) (plainly T b).here c);
+  gives = λ t j n T e may b c. record { past = c.past; legal = c.legal; goes_on = c.goes_on; leads = c.leads };
+  tells_end = λ t j T e may b c. record { past = c.past; legal = c.legal; goes_on = c.goes_on; leads = c.leads };
   puts = λ t j x T e few b c. record { past = c.past; legal = c.legal; goes_on = c.goes_on; leads = c.leads };
   returns = λ t j T e b c. return_charted t T (b.runs j e) (plainly T b).here (ends_here T (plainly T b)) c;
 }

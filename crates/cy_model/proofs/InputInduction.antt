@@ -7,7 +7,7 @@ use Rattle.cy_event.specs.declared.steps.Event.TheVariants as event
 use Rattle.cy_map.specs.declared.rule.Rule.{Rule}
 use Rattle.cy_model.specs.Endings.{end_marks, server_error}
 use Rattle.cy_model.specs.Entries.{is_closed_to}
-use Rattle.cy_model.specs.Marks.{Mark, opened, ended, came, sent, back, began, refused, called, over, started, put, error_answer, aborted, caused, TakenUp, Trace}
+use Rattle.cy_model.specs.Marks.{Mark, opened, ended, end_given, came, given, sent, back, began, refused, called, over, started, put, error_answer, aborted, caused, TakenUp, Trace}
 use Rattle.cy_model.specs.Settling.{due_of, may_begin, not_found, request, with_marks}
 use Rattle.cy_model.specs.Verdicts.{not_found_status}
 use Rattle.cy_model.proofs.Moves.{EndsWith, end_keeps}
@@ -60,6 +60,8 @@ module _ (P : Trace → Type 0) (limits : Limits) (rules : List Rule) (k : KeptB
     serves = λ t j T e p.
         let begun = k.others t (started j) T refl p in
         job_begins P t j T (λ e. begun) (λ e. k.others t (called call.Run None) ((t, started j) ∷ T) refl begun);
+    gives = λ t j n T e may p. k.others t (given n) T refl p;
+    tells_end = λ t j T e may p. k.others t end_given T refl p;
     puts = λ t j b T e few p. k.others t (put b) T refl p;
     returns = λ t j T e p.
         let here = k.others t (called call.Return None) ((t, back) ∷ T) refl (k.others t back T refl p) in

@@ -118,6 +118,14 @@ lasts_kept limits rules =
       serves = λ t j T e l.
           let c = open_cut_off limits T l (owed_open T j e) in
           record { ends = k.serves t j T e l.ends; last = λ f. inl (job_begins IsCutOff t j T (λ q. c) (λ q. c) f) };
+      gives = λ t j n T e may l. record {
+        ends = k.gives t j n T e may l.ends;
+        last = λ f. inl (open_cut_off limits T l (runs_open T j l.ends e) f);
+      };
+      tells_end = λ t j T e may l. record {
+        ends = k.tells_end t j T e may l.ends;
+        last = λ f. inl (open_cut_off limits T l (runs_open T j l.ends e) f);
+      };
       puts = λ t j b T e few l. record {
         ends = k.puts t j b T e few l.ends;
         last = λ f. inl (open_cut_off limits T l (runs_open T j l.ends e) f);

@@ -14,6 +14,7 @@ pub mod ConnectionRows
 pub mod Places
 pub mod FramedHeads
 pub mod Built
+pub mod Uncut
 pub mod BuiltKept
 pub mod BuiltInduction
 pub mod Waiting
@@ -22,6 +23,7 @@ pub mod ContainerMarks
 pub mod Turns
 pub mod Ends
 pub mod LastHeads
+pub mod BodyCauses
 pub mod Judged
 pub mod OwnEntries
 pub mod Refusals

@@ -13,6 +13,7 @@ use Rattle.cy_model.specs.Folds.{running}
 use Rattle.cy_model.specs.Outputs.{answer_of, is_gone}
 use Rattle.cy_model.specs.Laws.{RefusalsLeaveNoMark}
 use Rattle.cy_model.specs.Marks.{put, Trace}
+use Rattle.cy_model.specs.Reads.{Reading, content_read, end_read, nothing_read, reading_marks, reading_in, reading_reply}
 use Rattle.cy_model.specs.Replies.{Replied, is_refusal, plain}
 use Rattle.cy_model.specs.Settling.{settled, with_marks}
 
@@ -40,6 +41,11 @@ turn_told None T S e = cc
 turn_told (Some j) T S e = cc
 
 module _ (limits : Limits) (rules : List Rule) (t : ℕ) (T : Trace) where
+  reading_told : (r : Reading) → is_refusal (reading_reply r).reply ≡ true → after_act limits rules t T (reading_marks r) ≡ T
+  reading_told (content_read content) e = cc
+  reading_told end_read e = cc
+  reading_told nothing_read e = refl
+
   open_act_told : (a : Act) (b : List ℕ) → is_refusal (open_act_reply limits T a).reply ≡ true
       → after_act limits rules t T (open_act_marks limits T a b) ≡ T
   open_act_told (act.Write n) b e =
@@ -50,6 +56,7 @@ module _ (limits : Limits) (rules : List Rule) (t : ℕ) (T : Trace) where
         | false ↦ λ q. cc
       ] e
   open_act_told act.Return b e = cc
+  open_act_told (act.Read n) b e = reading_told (reading_in n T) e
 
   act_told : (a : Act) (b : List ℕ) → is_refusal (act_reply limits T a).reply ≡ true → after_act limits rules t T (act_marks limits T a b) ≡ T
   act_told a b e =

@@ -1,5 +1,5 @@
 -- What the marks of every entry and every move keep holds of the trace of any entries.
-use Rattle.std.proofs.Common.{◌≡◌, ℕ, ◌+◌, Bool, true, false, ◌≤◌, ◌-◌, min, length, length-take, arith, cond, List, [], ◌∷◌, take, Option, Some, None, is_some, refl, sym, subst, if◌then◌else◌, ◌==◌}
+use Rattle.std.proofs.Common.{◌≡◌, ℕ, ◌+◌, Bool, true, false, ◌≤◌, ◌-◌, min, length, length-take, arith, cond, List, [], ◌∷◌, take, Option, Some, None, is_some, refl, sym, ap, subst, if◌then◌else◌, ◌==◌}
 use Rattle.cy_event.specs.declared.limits.Limits.{Limits}
 use Rattle.cy_event.specs.declared.steps.Act.{Act}
 use Rattle.cy_event.specs.declared.steps.Act.TheVariants as act
@@ -18,11 +18,12 @@ use Rattle.cy_event.specs.Table.{is_end, row}
 use Rattle.cy_map.specs.declared.rule.Rule.{Rule}
 use Rattle.cy_model.specs.Endings.{end_marks, error_marks, failure_marks, fault_marks_by, hears_fault, server_error}
 use Rattle.cy_model.specs.Entries.{Entry, opening, tick, on_event, on_run, on_act, after, after_act, after_callback, act_marks, end_marks_where, ended_count, event_marks, is_closed_act, is_closed_to, is_full, job_marks, open_act_marks, owed_after, return_marks, run_marks, sent_of, trace_of, write_takes}
-use Rattle.cy_model.specs.Folds.{begun_count, is_open, running, state_of}
-use Rattle.cy_model.specs.Inputs.{consumed, room}
+use Rattle.cy_model.specs.Folds.{begun_count, cause_of, is_open, running, state_of}
+use Rattle.cy_model.specs.Inputs.{consumed, has_whole_body, room, waiting}
 use Rattle.cy_model.specs.Jobs.{next_job}
-use Rattle.cy_model.specs.Marks.{Mark, opened, ended, came, sent, back, began, refused, called, over, started, put, error_answer, aborted, caused, TakenUp, Trace}
+use Rattle.cy_model.specs.Marks.{Mark, opened, ended, end_given, came, given, sent, back, began, refused, called, over, started, put, error_answer, aborted, caused, TakenUp, Trace}
 use Rattle.cy_model.specs.Outputs.{answer_of, is_committed, is_gone}
+use Rattle.cy_model.specs.Reads.{reading_by, reading_marks}
 use Rattle.cy_model.specs.Settling.{Due, cause_and_fault, front_of, is_quiet, last_answer_marks, return_marks_in, settled, with_marks, may_begin, nothing, refusal, not_found, request, due_move, due_of, head_move}
 use Rattle.cy_model.specs.Verdicts.{not_found_status}
 use Rattle.cy_model.proofs.Moves.{IsCauseMove, IsEndMove}
@@ -52,6 +53,17 @@ went_on t T = (t, called call.Return None) ∷ T
 abbrev pub returned : ℕ → Trace → Trace
 returned t T = (t, called call.Return None) ∷ (t, back) ∷ T
 
+-- so much content is delivered: there is no cause to close, and as much waits
+pub record MayGive (n : ℕ) (T : Trace) : Type 0 where
+  pub calm : cause_of T ≡ None
+  pub waits : n ≤ length (waiting T)
+
+-- the end of the content is told: there is no cause to close, none waits, and the body is whole
+pub record MayTellEnd (T : Trace) : Type 0 where
+  pub calm : cause_of T ≡ None
+  pub none_waits : waiting T ≡ []
+  pub whole : has_whole_body T ≡ true
+
 -- the marks of each thing that happens keep this
 pub record IsKept (limits : Limits) (rules : List Rule) (P : Trace → Type 0) : Type 0 where
   pub opens : (t : ℕ) (T : Trace) → P T → P ((t, opened) ∷ T)
@@ -77,6 +89,9 @@ pub record IsKept (limits : Limits) (rules : List Rule) (P : Trace → Type 0) :
       → P ((t, began r) ∷ T)
   -- callbacks
   pub serves : (t : ℕ) (j : Job) (T : Trace) → next_job T ≡ Some j → P T → P (with_marks t (job_marks (Some j)) T)
+  -- content is delivered, or its end is told
+  pub gives : (t : ℕ) (j : Job) (n : ℕ) (T : Trace) → running T ≡ Some j → MayGive n T → P T → P ((t, given n) ∷ T)
+  pub tells_end : (t : ℕ) (j : Job) (T : Trace) → running T ≡ Some j → MayTellEnd T → P T → P ((t, end_given) ∷ T)
   -- as much content as the buffer has room for
   pub puts : (t : ℕ) (j : Job) (b : List ℕ) (T : Trace) → running T ≡ Some j → length b ≤ content_buffer - length (answer_of T).content → P T → P ((t, put b) ∷ T)
   pub returns : (t : ℕ) (j : Job) (T : Trace) → running T ≡ Some j → P T → P (with_marks t (return_marks T) T)
@@ -113,6 +128,10 @@ return_keeps P t T goes_on ends =
       | true ↦ λ e. ends e
       | false ↦ λ e. goes_on e
     ] refl
+
+some_none : {X : Type 0} (o : Option X) → is_some o ≡ false → o ≡ None
+some_none None e = refl
+some_none (Some x) e = cc
 
 -- what a write takes fits
 taken_fits : (n : ℕ) (b : List ℕ) (waiting : ℕ) → length (take (min n (content_buffer - waiting)) b) ≤ content_buffer - waiting
@@ -187,21 +206,34 @@ module _ (P : Trace → Type 0) (limits : Limits) (rules : List Rule) (k : IsKep
   job_keeps t T None e p = p
   job_keeps t T (Some j) e p = k.serves t j T e p
 
-  open_act_keeps : (t : ℕ) (j : Job) (T : Trace) (a : Act) (b : List ℕ) → running T ≡ Some j → P T → P (after_act limits rules t T (open_act_marks limits T a b))
-  open_act_keeps t j T (act.Write n) b e p =
+  reading_keeps : (t : ℕ) (j : Job) (n : ℕ) (T : Trace) (w : List ℕ) (v : Bool) → running T ≡ Some j → cause_of T ≡ None → waiting T ≡ w
+      → has_whole_body T ≡ v → P T → P (after_act limits rules t T (reading_marks (reading_by n w v)))
+  reading_keeps t j n T (b ∷ content) v e calm waits whole p =
+      let taken = length (take n (b ∷ content)) in
+      settles t ((t, given taken) ∷ T)
+      (k.gives t j taken T e (record { calm = calm; waits = omega (arith, length-take n (b ∷ content), ap length waits) }) p)
+  reading_keeps t j n T [] true e calm waits whole p =
+      settles t ((t, end_given) ∷ T) (k.tells_end t j T e (record { calm = calm; none_waits = waits; whole = whole }) p)
+  reading_keeps t j n T [] false e calm waits whole p = p
+
+  open_act_keeps : (t : ℕ) (j : Job) (T : Trace) (a : Act) (b : List ℕ) → running T ≡ Some j → is_closed_act a T ≡ false → P T
+      → P (after_act limits rules t T (open_act_marks limits T a b))
+  open_act_keeps t j T (act.Read n) b e calm p =
+      reading_keeps t j n T (waiting T) (has_whole_body T) e (some_none (cause_of T) calm) refl refl p
+  open_act_keeps t j T (act.Write n) b e calm p =
       let taken = take (write_takes (answer_of T) n) b in
       elim (is_full (answer_of T) n) as (λ v. P (after_act limits rules t T (cond v None (Some (put taken ∷ []))))) [
         | true ↦ p
         | false ↦ settles t ((t, put taken) ∷ T) (k.puts t j taken T e (taken_fits n b (length (answer_of T).content)) p)
       ]
-  open_act_keeps t j T act.Return b e p = settles t (with_marks t (return_marks T) T) (k.returns t j T e p)
+  open_act_keeps t j T act.Return b e calm p = settles t (with_marks t (return_marks T) T) (k.returns t j T e p)
 
   act_keeps : (t : ℕ) (j : Job) (T : Trace) (a : Act) (b : List ℕ) → running T ≡ Some j → P T → P (after_act limits rules t T (act_marks limits T a b))
   act_keeps t j T a b e p =
-      elim (is_closed_act a T) as (λ v. P (after_act limits rules t T (cond v None (open_act_marks limits T a b)))) [
-        | true ↦ p
-        | false ↦ open_act_keeps t j T a b e p
-      ]
+      elim (is_closed_act a T) as (λ v. is_closed_act a T ≡ v → P (after_act limits rules t T (cond v None (open_act_marks limits T a b)))) [
+        | true ↦ λ closed. p
+        | false ↦ λ calm. open_act_keeps t j T a b e calm p
+      ] refl
 
   callback_keeps : (t : ℕ) (T : Trace) (a : Act) (b : List ℕ) → P T → P (after_callback limits rules t T a b)
   callback_keeps t T a b p =

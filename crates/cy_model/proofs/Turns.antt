@@ -18,15 +18,15 @@ use Rattle.cy_model.specs.Laws.{TurnBegins, TurnsServe}
 use Rattle.cy_model.specs.Marks.{TakenUp, Trace, aborted, began, caused, error_answer, over}
 use Rattle.cy_model.specs.Outputs.{is_gone, unsent}
 use Rattle.cy_model.specs.Replies.{plain}
-use Rattle.cy_model.specs.Settling.{after_move, due_by_front, due_by_verdict, due_of, front_of, request, settled, taken_up_by, with_marks}
+use Rattle.cy_model.specs.Settling.{after_move, due_by_front, due_by_verdict, due_of, front_of, next_move, request, settled, taken_up_by, with_marks}
 use Rattle.cy_model.specs.Verdicts.{turned_away, unserved, served, verdict_of}
 use Rattle.cy_model.proofs.Built.{IsPlain, asked_service, service_owed}
 use Rattle.cy_model.proofs.BuiltInduction.{IsKeptWhereBuilt, built_trace_keeps}
 use Rattle.cy_model.proofs.BuiltKept.{plainly}
-use Rattle.cy_model.proofs.Gone.{open_still}
 use Rattle.cy_model.proofs.Moves.{EndsWith, end_keeps}
 use Rattle.cy_model.proofs.Settlings.{settled-done}
 use Rattle.cy_model.proofs.TraceInduction.{not_found_keeps, return_keeps, returned, went_on}
+use Rattle.cy_model.proofs.Waiting.{open_rests}
 
 -- the rule that serves a head names this component
 record IsMapped (rules : List Rule) (head : Head) (part : ℕ) : Type 0 where
@@ -95,6 +95,8 @@ serves_kept limits rules = record {
   serves = λ t j T e b c.
       let service = service_owed T j (plainly T b) e in
       subst (λ (i : Job). IsToServe rules (with_marks t (job_marks (Some i)) T)) (sym service.1) (served_serves rules t service.0 T c);
+  gives = λ t j n T e may b c. record { fresh = c.fresh; mapped = c.mapped };
+  tells_end = λ t j T e may b c. record { fresh = c.fresh; mapped = c.mapped };
   puts = λ t j x T e few b c. record { fresh = c.fresh; mapped = c.mapped };
   returns = λ t j T e b c.
       return_keeps (IsToServe rules) t T
@@ -119,12 +121,12 @@ open_is_not_gone T o =
     and_right (is_some (cause_of T)) (not (is_open T) && (length (unsent T) == 0)) (and_left (not (is_open T)) (length (unsent T) == 0) (ap not o))
 
 -- what is owed begins, where nothing else is to be done
-turn_begins : (limits : Limits) (rules : List Rule) (now : ℕ) (T : Trace) (head : Head) (m : IsMapped rules head (part_of T)) → IsPlain T → is_open T ≡ true
+turn_begins : (limits : Limits) (rules : List Rule) (now : ℕ) (T : Trace) (head : Head) (m : IsMapped rules head (part_of T)) → next_move limits rules T ≡ None → is_open T ≡ true
     → next_job T ≡ Some (job.Service m.rule.part) → TurnBegins limits rules now T head
 unfolding reply_to after
-turn_begins limits rules now T head m p o job_now =
+turn_begins limits rules now T head m rests o job_now =
     let S = settled limits rules now T in
-    let quiet : S ≡ T = settled-done limits rules now T (ap (after_move now T) (open_still limits rules T p o)) in
+    let quiet : S ≡ T = settled-done limits rules now T (ap (after_move now T) rests) in
     let owed : owed_after T S ≡ Some (job.Service m.rule.part)
     = ap (owed_after T) quiet ∙ ap (λ (v : Bool). cond v (next_job T) None) (same_number (ended_count T)) ∙ job_now in
     let alive = open_is_not_gone T o in
@@ -142,4 +144,4 @@ turns_serve limits rules entries now r o unserved_now is =
     let known = built_trace_keeps limits rules (IsToServe rules) (serves_kept limits rules) (closed_serves rules [] refl) entries in
     let p = plainly T known.0 in
     let m = known.1.mapped r o is in
-    turn_begins limits rules now T r.head m p o (owed_by T m.rule.part p o unserved_now (known.1.fresh o unserved_now) m.names)
+    turn_begins limits rules now T r.head m (open_rests limits rules entries o) o (owed_by T m.rule.part p o unserved_now (known.1.fresh o unserved_now) m.names)

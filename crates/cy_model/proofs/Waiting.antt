@@ -1,5 +1,5 @@
 -- Whatever the entries of a connection are, no move is left to be made in its trace.
-use Rattle.std.proofs.Common.{◌≡◌, ◌≤◌, ℕ, Bool, true, false, not, ◌&&◌, ◌==◌, cond, List, [], ◌∷◌, Option, Some, None, is_none, is_some, option_map, refl, ap, ◌∙◌, if◌then◌else◌}
+use Rattle.std.proofs.Common.{◌≡◌, ◌≤◌, ℕ, ◌+◌, ltb-true, nat_lt, arith, Bool, true, false, not, ◌&&◌, ◌==◌, cond, List, [], ◌∷◌, Option, Some, None, is_none, is_some, option_map, refl, ap, ◌∙◌, if◌then◌else◌}
 use Rattle.cy_event.specs.declared.limits.Limits.{Limits}
 use Rattle.cy_event.specs.declared.steps.Call.TheVariants as call
 use Rattle.cy_event.specs.declared.steps.CloseCause.TheVariants.{InputEnd}
@@ -10,13 +10,13 @@ use Rattle.cy_map.specs.declared.rule.Rule.{Rule}
 use Rattle.cy_head.proofs.HeadFronts.{heads_are_awaited}
 use Rattle.cy_model.specs.Entries.{Entry, opening, tick, on_event, on_run, on_act, act_marks, after, after_act, ended_count, event_marks, is_closed_to, job_marks, owed_after, trace_of}
 use Rattle.cy_model.specs.Folds.{begun_by, callback_of, cause_of, context_of, has_ended, is_open, parked_callback, running, state_of}
-use Rattle.cy_model.specs.Inputs.{has_whole_body}
+use Rattle.cy_model.specs.Inputs.{has_whole_body, used_at_end}
 use Rattle.cy_model.specs.Jobs.{next_job}
 use Rattle.cy_model.specs.Laws.{NoEndWaits, NoHeadWaits}
 use Rattle.cy_model.specs.Marks.{Mark, opened, called, started, Trace}
 use Rattle.cy_model.specs.Outputs.{is_gone}
-use Rattle.cy_model.specs.Settling.{Move, body_cause, body_move, cause_and_fault, due_by_front, due_move, end_move, first_move, front_of, head_move, input_move, is_empty_jobs, next_move, return_marks_in, return_move, settled, with_marks}
-use Rattle.cy_model.proofs.Built.{owed_open, plain_body, plain_of}
+use Rattle.cy_model.specs.Settling.{Move, body_cause, body_cause_by, body_move, cause_and_fault, due_by_front, due_move, end_move, first_move, front_of, head_move, input_move, is_empty_jobs, next_move, return_marks_in, return_move, settled, with_marks}
+use Rattle.cy_model.proofs.Built.{owed_open}
 use Rattle.cy_model.proofs.Gone.{all_still, no_end, no_head, open_may_not_begin}
 use Rattle.cy_model.proofs.Settlings.{awaited_at_rest, goes_on_at_rest, settled-rests}
 use Rattle.cy_model.proofs.TraceInduction.{either_way, job_begins}
@@ -59,14 +59,23 @@ begun_runs (job.OnTimeout listener tag) before = refl
 begun_runs (job.OnError listener tag) before = refl
 begun_runs (job.OnComplete listener tag) before = refl
 
+below_none : (n : ℕ) → nat_lt n 0 ≡ false
+below_none n = elim (nat_lt n 0) as (λ v. nat_lt n 0 ≡ v → v ≡ false) [ true ↦ λ e. absurd (omega (arith, ltb-true n 0 e)) | false ↦ λ e. refl ] refl
+
 module _ (limits : Limits) (rules : List Rule) where
   -- no move applies
   abbrev Rests : Trace → Type 0
   Rests T = next_move limits rules T ≡ None
 
+  -- without a request nothing is passed over
+  nothing_passed : body_move limits [] ≡ None
+  nothing_passed =
+      ap (λ (v : Bool). option_map (cause_and_fault []) (body_cause_by None (if v then Some (used_at_end [] + limits.max_swallow) else None)))
+      (below_none limits.max_swallow)
+
   nothing_rests : 1 ≤ limits.max_head → Rests []
   nothing_rests long =
-      all_still limits rules [] (plain_body limits [] (plain_of [] tt)) refl refl refl
+      all_still limits rules [] nothing_passed refl refl refl
       (ap (λ (f : Front). due_move (due_by_front limits rules 0 1 f)) (nothing_is_awaited limits long))
 
   -- while a callback of an open request runs, only its body or the end of the input may be a cause
@@ -108,23 +117,37 @@ module _ (limits : Limits) (rules : List Rule) where
         | false ↦ rests
       ]
 
-  act_rests : (t : ℕ) (T : Trace) (o : Option (List Mark)) → Rests T → Rests (after_act limits rules t T o)
-  act_rests t T None rests = rests
-  act_rests t T (Some ms) rests = settled-rests limits rules t (with_marks t ms T)
+  -- what holds of each trace to which no move applies, and of the one before an entry, holds behind it
+  act_rests : (Q : Trace → Type 0) → ((S : Trace) → Rests S → Q S) → (t : ℕ) (T : Trace) (o : Option (List Mark)) → Q T → Q (after_act limits rules t T o)
+  act_rests Q at_rest t T None before = before
+  act_rests Q at_rest t T (Some ms) before =
+      at_rest (settled limits rules t (with_marks t ms T)) (settled-rests limits rules t (with_marks t ms T))
 
-  entry_rests : (t : ℕ) (T : Trace) (e : Entry) → Rests T → Rests (after limits rules t T e)
+  entry_rests : (Q : Trace → Type 0) → ((S : Trace) → Rests S → Q S) → (t : ℕ) (T : Trace) (e : Entry) → Q T → Q (after limits rules t T e)
   unfolding after
-  entry_rests t T opening rests = settled-rests limits rules t ((t, opened) ∷ T)
-  entry_rests t T tick rests = settled-rests limits rules t T
-  entry_rests t T (on_event e b) rests =
-      either_way Rests (is_closed_to e T) T _ rests (settled-rests limits rules t (with_marks t (event_marks T e b) T))
-  entry_rests t T on_run rests = either_way Rests (is_gone T) T _ rests (turn_rests t T)
-  entry_rests t T (on_act a b) rests =
-      either_way Rests (is_gone T) T _ rests (either_way Rests (is_some (running T)) _ T (act_rests t T (act_marks limits T a b) rests) rests)
+  entry_rests Q at_rest t T opening before = at_rest (settled limits rules t ((t, opened) ∷ T)) (settled-rests limits rules t ((t, opened) ∷ T))
+  entry_rests Q at_rest t T tick before = at_rest (settled limits rules t T) (settled-rests limits rules t T)
+  entry_rests Q at_rest t T (on_event e b) before =
+      let R = with_marks t (event_marks T e b) T in
+      either_way Q (is_closed_to e T) T _ before (at_rest (settled limits rules t R) (settled-rests limits rules t R))
+  entry_rests Q at_rest t T on_run before =
+      let S = settled limits rules t T in
+      either_way Q (is_gone T) T _ before (at_rest (with_marks t (job_marks (owed_after T S)) S) (turn_rests t T))
+  entry_rests Q at_rest t T (on_act a b) before =
+      either_way Q (is_gone T) T _ before
+      (either_way Q (is_some (running T)) _ T (act_rests Q at_rest t T (act_marks limits T a b) before) before)
+
+  entries_lead : (Q : Trace → Type 0) → ((S : Trace) → Rests S → Q S) → Q [] → (entries : List (ℕ × Entry)) → Q (trace_of limits rules entries)
+  entries_lead Q at_rest start [] = start
+  entries_lead Q at_rest start ((t, e) ∷ entries) =
+      entry_rests Q at_rest t (trace_of limits rules entries) e (entries_lead Q at_rest start entries)
 
   pub entries_rest : 1 ≤ limits.max_head → (entries : List (ℕ × Entry)) → Rests (trace_of limits rules entries)
-  entries_rest long [] = nothing_rests long
-  entries_rest long ((t, e) ∷ entries) = entry_rests t (trace_of limits rules entries) e (entries_rest long entries)
+  entries_rest long entries = entries_lead Rests (λ S rests. rests) (nothing_rests long) entries
+
+  -- while a request is open, whatever the limits are
+  pub open_rests : (entries : List (ℕ × Entry)) → is_open (trace_of limits rules entries) ≡ true → Rests (trace_of limits rules entries)
+  open_rests entries = entries_lead (λ S. is_open S ≡ true → Rests S) (λ S rests o. rests) (λ o. cc) entries
 
 pub no_head_waits : NoHeadWaits
 no_head_waits limits rules entries long may =

@@ -20,6 +20,7 @@ use Rattle.cy_model.specs.Inputs.{room}
 use Rattle.cy_model.specs.Jobs.{next_job}
 use Rattle.cy_model.specs.Marks.{Mark, opened, ended, came, sent, called, started, back, put, Trace}
 use Rattle.cy_model.specs.Outputs.{answer_of, is_gone, unsent}
+use Rattle.cy_model.specs.Reads.{reading_marks, reading_in, reading_reply}
 use Rattle.cy_model.specs.Replies.{Replied, plain}
 use Rattle.cy_model.specs.Settling.{with_marks, rested, settled}
 
@@ -64,8 +65,9 @@ is_closed_by (event.Took n) cause has_ended is_gone is_broken = is_gone || is_br
 abbrev pub is_closed_to : Event → Trace → Bool
 is_closed_to e T = is_closed_by e (cause_of T) (has_ended T) (is_gone T) (is_broken T)
 
--- a callback may not write once there is a cause to close
+-- a callback may neither read nor write once there is a cause to close
 abbrev pub is_closed_act : Act → Trace → Bool
+is_closed_act (act.Read n) T = is_some (cause_of T)
 is_closed_act (act.Write n) T = is_some (cause_of T)
 is_closed_act act.Return T = false
 
@@ -97,6 +99,7 @@ job_marks (Some j) = started j ∷ run_marks (makes_calls j)
 
 -- the marks of an act that is open to the callback; one that can't be made now makes none
 abbrev pub open_act_marks : Limits → Trace → Act → List ℕ → Option (List Mark)
+open_act_marks limits T (act.Read n) b = reading_marks (reading_in n T)
 open_act_marks limits T (act.Write n) b = if is_full (answer_of T) n then None else Some (put (take (write_takes (answer_of T) n) b) ∷ [])
 open_act_marks limits T act.Return b = Some (return_marks T)
 
@@ -173,6 +176,7 @@ abbrev pub write_reply : Answer → ℕ → Reply
 write_reply a n = if is_full a n then reply.Again else reply.Taken (write_takes a n)
 
 abbrev pub open_act_reply : Limits → Trace → Act → Replied
+open_act_reply limits T (act.Read n) = reading_reply (reading_in n T)
 open_act_reply limits T (act.Write n) = plain (write_reply (answer_of T) n)
 open_act_reply limits T act.Return = plain reply.Done
 

@@ -1,10 +1,10 @@
 -- Laws of the definitions. Each is the contract of a public function without a body.
-use Rattle.std.specs.Prelude.{◌≡◌, ◌≢◌, ◌≤◌, ◌⊎◌, ℕ, ◌+◌, Bool, true, false, List, [], ◌∷◌, ◌++◌, All, codes, drop, length, Option, option_map, Some, None, Ok}
+use Rattle.std.specs.Prelude.{◌≡◌, ◌≢◌, ◌<◌, ◌≤◌, ◌⊎◌, ℕ, ◌+◌, Bool, true, false, List, [], ◌∷◌, ◌++◌, All, codes, drop, length, Option, option_map, Some, None, Ok}
 use Rattle.cy_event.specs.declared.limits.Limits.{Limits}
 use Rattle.cy_event.specs.declared.steps.Act.TheVariants as act
 use Rattle.cy_event.specs.declared.steps.Call.{Call}
 use Rattle.cy_event.specs.declared.steps.CloseCause.{CloseCause}
-use Rattle.cy_event.specs.declared.steps.CloseCause.TheVariants.{InputEnd, Refused}
+use Rattle.cy_event.specs.declared.steps.CloseCause.TheVariants.{BadBody, InputEnd, Refused, SwallowLimit}
 use Rattle.cy_event.specs.declared.steps.Event.TheVariants as event
 use Rattle.cy_event.specs.declared.steps.Job.TheVariants as job
 use Rattle.cy_event.specs.declared.steps.Reply.TheVariants as reply
@@ -20,7 +20,7 @@ use Rattle.cy_event.specs.Bodies.{body_of, whole}
 use Rattle.cy_event.specs.Framings.{Framed, framed}
 use Rattle.cy_event.specs.Heads.{Head, found, head_of}
 use Rattle.cy_model.specs.Folds.{bytes_of, cause_of, charts, ended_charts, has_ended, is_open, is_served, request_of, requests_of, running}
-use Rattle.cy_model.specs.Inputs.{consumed, has_whole_body}
+use Rattle.cy_model.specs.Inputs.{consumed, has_bad_body, has_whole_body, swallowed}
 use Rattle.cy_model.specs.Outputs.{is_gone, output}
 use Rattle.cy_event.specs.declared.steps.Call.TheVariants as call
 use Rattle.cy_model.specs.Marks.{Mark, TakenUp, Trace, began, refused, called, error_answer, aborted, over, caused}
@@ -65,6 +65,16 @@ NoHeadIsLost =
     (limits : Limits) (rules : List Rule) (entries : List (ℕ × Entry))
     → cause_of (trace_of limits rules entries) ≡ Some InputEnd
     → (has_whole_body (trace_of limits rules entries) ≡ false) ⊎ (is_awaited (front_of limits (trace_of limits rules entries)) ≡ true)
+
+-- why a connection closes for a body stands in the bytes that came: the body is bad, or more of it was passed over than may
+-- be. The bytes that come later can't take it back
+pub record BodyDecides (limits : Limits) (T : Trace) : Type 0 where
+  pub bad : cause_of T ≡ Some BadBody → has_bad_body T ≡ true
+  pub long : cause_of T ≡ Some SwallowLimit → limits.max_swallow < swallowed T
+
+-- so it is, whatever the entries of a connection are
+abbrev pub BodiesDecide : Type 0
+BodiesDecide = (limits : Limits) (rules : List Rule) (entries : List (ℕ × Entry)) → BodyDecides limits (trace_of limits rules entries)
 
 -- ---- what the container does by itself
 
@@ -200,12 +210,12 @@ abbrev pub NothingIsTakenBack : Type 0
 NothingIsTakenBack =
     (limits : Limits) (rules : List Rule) (t : ℕ) (T : Trace) (e : Entry) → OnlyGrows T (after limits rules t T e)
 
--- A request has the framing that its head has, and is none that isn't served yet: without a body, and not of HEAD.
+-- A request has the framing that its head has, and is none that isn't served yet: none of HEAD.
 pub record IsFramedByHead (r : TakenUp) : Type 0 where
   pub framing : Framed
   pub of_head : framed r.head.minor r.head.fields ≡ Ok framing
   pub same : r.framing ≡ framing.body
-  pub built : is_unbuilt r.head framing ≡ false
+  pub built : is_unbuilt r.head ≡ false
 
 -- whatever the entries of a connection are, so is each request that it took up (RFC 9112, section 6.3)
 abbrev pub RequestsAreFramed : Type 0

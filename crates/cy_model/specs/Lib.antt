@@ -10,6 +10,7 @@ pub mod Settling
 pub mod Jobs
 pub mod Ticks
 pub mod Replies
+pub mod Reads
 pub mod Entries
 pub mod Runs
 pub mod Connections

@@ -35,7 +35,8 @@ first_move (Some ms ∷ moves) = Some ms
 abbrev pub after_move : ℕ → Trace → Move → Option Trace
 after_move t T move = option_map (λ ms. with_marks t ms T) move
 
--- ---- a bad body, and one that is passed over for too long
+-- ---- a bad body (RFC 9112, section 7.1), and one of which too much is passed over: what a request leaves unread is read
+-- to its end or the connection closes (section 9.3), so that it is never taken for the next request; the limit is own
 
 -- the place in the body of the byte that made it bad
 abbrev pub bad_place : Trace → Option ℕ
@@ -63,7 +64,7 @@ cause_and_fault T k = caused k ∷ fault_marks T
 abbrev pub body_move : Limits → Trace → Move
 body_move limits T = if is_none (cause_of T) then option_map (cause_and_fault T) (body_cause limits T) else None
 
--- ---- input that ends inside a body
+-- ---- input that ends inside a body (RFC 9112, section 8)
 
 abbrev pub input_move : Trace → Move
 input_move T =

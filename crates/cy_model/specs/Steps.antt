@@ -13,8 +13,13 @@ IsNewNumber c [] = Unit {0}
 IsNewNumber c (step.Admit d ∷ w) = (c ≢ d) × IsNewNumber c w
 IsNewNumber c (s ∷ w) = IsNewNumber c w
 
--- the bytes that an act counts stand beside it
+-- as much content as one read may ask for
+abbrev pub greatest_read : ℕ
+greatest_read = 65536
+
+-- an act counts no more than it may: a read that bound, a write the bytes that stand beside it
 abbrev pub IsWithinBytes : Act → List ℕ → Type 0
+IsWithinBytes (act.Read n) b = n ≤ greatest_read
 IsWithinBytes (act.Write n) b = n ≤ length b
 IsWithinBytes act.Return b = Unit {0}
 

@@ -1,17 +1,18 @@
 -- The marks that no entry makes yet, since what makes them isn't built. Where it is built, its line goes.
-use Rattle.std.specs.Prelude.{◌≡◌, Bool, true, false, not, ◌||◌, ◌==◌, [], ◌∷◌}
+use Rattle.std.specs.Prelude.{◌≡◌, ℕ, Bool, true, false, not, ◌||◌, ◌==◌, [], ◌∷◌}
 use Rattle.cy_event.specs.declared.steps.Call.{Call}
 use Rattle.cy_event.specs.declared.steps.Call.TheVariants as call
 use Rattle.cy_event.specs.declared.steps.CloseCause.{CloseCause}
 use Rattle.cy_event.specs.declared.steps.CloseCause.TheVariants as cause
 use Rattle.cy_event.specs.declared.steps.Job.{Job}
 use Rattle.cy_event.specs.declared.steps.Job.TheVariants as job
-use Rattle.cy_model.specs.Marks.{Mark, TakenUp, Trace, began, called, started, parked, given, end_given, listened, timeout_set, read_listener_set, write_listener_set, not_ready, status_set, field_added, length_set, answer_reset, flushed, nothing_to_flush, error_answer, aborted, caused, broken}
-use Rattle.cy_model.specs.Verdicts.{is_framed, is_head_method, not_found_status}
+use Rattle.cy_event.specs.Framings.{bad_request}
+use Rattle.cy_model.specs.Marks.{Mark, TakenUp, Trace, began, called, started, parked, listened, timeout_set, read_listener_set, write_listener_set, not_ready, status_set, field_added, length_set, answer_reset, flushed, nothing_to_flush, error_answer, aborted, caused, broken}
+use Rattle.cy_model.specs.Verdicts.{is_head_method, not_found_status}
 
--- requests with a body, and requests of HEAD
+-- requests of HEAD
 abbrev pub is_unbuilt_request : TakenUp → Bool
-is_unbuilt_request r = is_framed r.framing || is_head_method r.head
+is_unbuilt_request r = is_head_method r.head
 
 -- calls of the state table but those of a service that returns
 abbrev pub is_unbuilt_call : Call → Bool
@@ -24,9 +25,11 @@ abbrev pub is_unbuilt_job : Job → Bool
 is_unbuilt_job (job.Service part) = false
 is_unbuilt_job j = true
 
--- causes but those of a head, of an answer that says so, and of the end of the input
+-- causes but those of a head, of a body, of an answer that says so, and of the end of the input
 abbrev pub is_unbuilt_cause : CloseCause → Bool
 is_unbuilt_cause cause.Refused = false
+is_unbuilt_cause cause.BadBody = false
+is_unbuilt_cause cause.SwallowLimit = false
 is_unbuilt_cause cause.LastAnswer = false
 is_unbuilt_cause cause.InputEnd = false
 is_unbuilt_cause k = true
@@ -40,7 +43,11 @@ is_unbuilt_asking write_listener_set = true
 is_unbuilt_asking (not_ready side) = true
 is_unbuilt_asking m = false
 
--- of an answer all but its content, and of the error answers all but that of a path which no rule serves
+-- the error answers but that of a path which no rule serves, and that of a request whose body was none
+abbrev pub is_unbuilt_error : ℕ → Bool
+is_unbuilt_error status = not (status == not_found_status || status == bad_request)
+
+-- of an answer all but its content and those error answers
 abbrev pub is_unbuilt_answering : Mark → Bool
 is_unbuilt_answering (status_set status) = true
 is_unbuilt_answering (field_added field) = true
@@ -48,7 +55,7 @@ is_unbuilt_answering (length_set n) = true
 is_unbuilt_answering answer_reset = true
 is_unbuilt_answering flushed = true
 is_unbuilt_answering nothing_to_flush = true
-is_unbuilt_answering (error_answer status) = not (status == not_found_status)
+is_unbuilt_answering (error_answer status) = is_unbuilt_error status
 is_unbuilt_answering aborted = true
 is_unbuilt_answering m = false
 
@@ -57,8 +64,6 @@ is_unbuilt_mark (began r) = is_unbuilt_request r
 is_unbuilt_mark (called k part) = is_unbuilt_call k
 is_unbuilt_mark (started j) = is_unbuilt_job j
 is_unbuilt_mark (parked side) = true
-is_unbuilt_mark (given n) = true
-is_unbuilt_mark end_given = true
 is_unbuilt_mark (caused k) = is_unbuilt_cause k
 is_unbuilt_mark broken = true
 is_unbuilt_mark m = is_unbuilt_asking m || is_unbuilt_answering m

@@ -1,7 +1,5 @@
 -- What is done with a head that was read.
-use Rattle.std.specs.Prelude.{ℕ, Bool, true, false, ◌||◌, List, Option, Some, None, Result, Ok, Err, codes, bytes_eq, if◌then◌else◌}
-use Rattle.cy_event.specs.declared.framing.Framing.{Framing}
-use Rattle.cy_event.specs.declared.framing.Framing.TheVariants.{None as no_body, Length, Chunked}
+use Rattle.std.specs.Prelude.{ℕ, Bool, List, Option, Some, None, Result, Ok, Err, codes, bytes_eq, if◌then◌else◌}
 use Rattle.cy_event.specs.Framings.{Framed, framed, bad_request, not_implemented}
 use Rattle.cy_event.specs.Heads.{Head}
 use Rattle.cy_event.specs.Targets.{PathAndQuery, target_of}
@@ -31,15 +29,9 @@ is_connect head = has_method (codes "CONNECT") head
 abbrev pub is_head_method : Head → Bool
 is_head_method head = has_method (codes "HEAD") head
 
--- a body is framed
-abbrev pub is_framed : Framing → Bool
-is_framed no_body = false
-is_framed (Length n) = true
-is_framed Chunked = true
-
--- requests with bodies and HEAD requests aren't served so far
-abbrev pub is_unbuilt : Head → Framed → Bool
-is_unbuilt head f = is_framed f.body || is_head_method head
+-- HEAD requests aren't served so far
+abbrev pub is_unbuilt : Head → Bool
+is_unbuilt head = is_head_method head
 
 abbrev pub by_rule : Framed → Option Rule → Verdict
 by_rule f None = unserved f
@@ -47,7 +39,7 @@ by_rule f (Some rule) = served rule f
 
 abbrev pub by_framing : List Rule → Head → List ℕ → Result Framed ℕ → Verdict
 by_framing rules head path (Err status) = turned_away status
-by_framing rules head path (Ok f) = if is_unbuilt head f then turned_away not_implemented else by_rule f (mapped rules path)
+by_framing rules head path (Ok f) = if is_unbuilt head then turned_away not_implemented else by_rule f (mapped rules path)
 
 abbrev pub by_target : List Rule → Head → Option PathAndQuery → Verdict
 by_target rules head None = turned_away bad_request

@@ -1,5 +1,5 @@
 //! Laws of the definitions: a function without parameters and without a body has the law as its contract.
-ghost use Rattle.cy_model.specs.Laws.{AdmissionsOpenOne, ChartsAreLegal, ClockTicksForEach, ExampleIsReported, FullOpensNone, GoneStaysGone, HeadsAreAtTheirPlaces, LimitIsKept, MovesAreTheContainers, NoEndWaits, NoHeadIsLost, NoHeadWaits, NothingIsTakenBack, OwnEntriesDecide, OwnStepsAddOwnEntries, RefusalsAreTold, RefusalsLeaveNoMark, RequestsAreFramed, RequestsAreJudged, RequestsEndOnce, RunsAreLegal, SettlingGoesOn, SettlingIsTwoWords, SettlingRests, TurnsServe};
+ghost use Rattle.cy_model.specs.Laws.{AdmissionsOpenOne, BodiesDecide, ChartsAreLegal, ClockTicksForEach, ExampleIsReported, FullOpensNone, GoneStaysGone, HeadsAreAtTheirPlaces, LimitIsKept, MovesAreTheContainers, NoEndWaits, NoHeadIsLost, NoHeadWaits, NothingIsTakenBack, OwnEntriesDecide, OwnStepsAddOwnEntries, RefusalsAreTold, RefusalsLeaveNoMark, RequestsAreFramed, RequestsAreJudged, RequestsEndOnce, RunsAreLegal, SettlingGoesOn, SettlingIsTwoWords, SettlingRests, TurnsServe};
 
 /// No move applies to what is settled.
 pub fn settling_rests()
@@ -29,6 +29,11 @@ pub fn no_end_waits()
 /// Where a connection closes for the end of its input, no head was left that could be taken up or refused.
 pub fn no_head_is_lost()
     ensures { NoHeadIsLost }
+{}
+
+/// Where a connection closes for a body, the body is bad, or more of it was passed over than may be.
+pub fn bodies_decide()
+    ensures { BodiesDecide }
 {}
 
 /// The worked example is reported as the README shows it.
@@ -123,7 +128,7 @@ pub fn refusals_leave_no_mark()
     ensures { RefusalsLeaveNoMark }
 {}
 
-/// Each request that was taken up has the framing that its head has, and no request with a body, or of HEAD, was.
+/// Each request that was taken up has the framing that its head has, and no request of HEAD was.
 pub fn requests_are_framed()
     ensures { RequestsAreFramed }
 {}

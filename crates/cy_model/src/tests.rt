@@ -16,6 +16,7 @@ fn laws_ask_for_nothing(_rt: HostRuntime) -> Result<(), Fail> {
     laws::no_head_waits();
     laws::no_end_waits();
     laws::no_head_is_lost();
+    laws::bodies_decide();
     laws::heads_are_at_their_places();
     laws::nothing_is_taken_back();
     laws::requests_end_once();

@@ -20,18 +20,18 @@ built_more t m T built before = (built, before)
 -- a verdict by which a request begins
 IsBuiltVerdict : Head → Verdict → Type 0
 IsBuiltVerdict head (turned_away status) = Unit {0}
-IsBuiltVerdict head (unserved f) = is_unbuilt head f ≡ false
-IsBuiltVerdict head (served rule f) = is_unbuilt head f ≡ false
+IsBuiltVerdict head (unserved f) = is_unbuilt head ≡ false
+IsBuiltVerdict head (served rule f) = is_unbuilt head ≡ false
 
-rule_built : (head : Head) (f : Framed) (o : Option Rule) → is_unbuilt head f ≡ false → IsBuiltVerdict head (by_rule f o)
+rule_built : (head : Head) (f : Framed) (o : Option Rule) → is_unbuilt head ≡ false → IsBuiltVerdict head (by_rule f o)
 unfolding IsBuiltVerdict
 rule_built head f None built = built
 rule_built head f (Some rule) built = built
 
-framing_built : (rules : List Rule) (head : Head) (path : List ℕ) (f : Framed) → IsBuiltVerdict head (cond (is_unbuilt head f) (turned_away not_implemented) (by_rule f (mapped rules path)))
+framing_built : (rules : List Rule) (head : Head) (path : List ℕ) (f : Framed) → IsBuiltVerdict head (cond (is_unbuilt head) (turned_away not_implemented) (by_rule f (mapped rules path)))
 unfolding IsBuiltVerdict
 framing_built rules head path f =
-    elim (is_unbuilt head f) as (λ v. is_unbuilt head f ≡ v → IsBuiltVerdict head (cond v (turned_away not_implemented) (by_rule f (mapped rules path)))) [
+    elim (is_unbuilt head) as (λ v. is_unbuilt head ≡ v → IsBuiltVerdict head (cond v (turned_away not_implemented) (by_rule f (mapped rules path)))) [
       | true ↦ λ e. tt
       | false ↦ λ e. rule_built head f (mapped rules path) e
     ] refl

@@ -1,3 +1,9 @@
+pub mod Rests
+pub mod LineInputs
+pub mod Intakes
+pub mod Given
+pub mod ShortBodies
+pub mod InRing
 pub mod Built
 pub mod Plain
 pub mod Lines

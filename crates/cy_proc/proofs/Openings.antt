@@ -16,6 +16,7 @@ use Rattle.cy_event.specs.RequestHeads.{RequestParts}
 use Rattle.cy_event.proofs.Fronts.{front_length-bounds, head_of-found}
 use Rattle.cy_head.specs.Answers.{answer_to}
 use Rattle.cy_head.specs.declared.front.Front.TheVariants as answer
+use Rattle.cy_framing.specs.declared.verdict.Framed.{Framed as FramedSo}
 use Rattle.cy_map.specs.declared.rule.Rule.{Rule}
 use Rattle.cy_event.specs.Answering.{beginning}
 use Rattle.cy_model.specs.Folds.{begun_count, calls, cause_of, ended_charts, is_open}
@@ -24,8 +25,7 @@ use Rattle.cy_model.specs.Outputs.{asked_of, unsent}
 use Rattle.cy_model.specs.Marks.{Mark, began, refused, error_answer, over, caused, TakenUp, Trace}
 use Rattle.cy_model.specs.Settling.{Due, nothing, refusal, not_found, request, due_by_front, due_by_verdict, due_move, due_of, front_of, is_awaited, is_last_number, last_answer_marks, may_begin, may_begin_by, begin_bound, rested, taken_up, with_marks, after_move}
 use Rattle.cy_model.specs.Unbuilt.{is_unbuilt_request}
-use Rattle.cy_model.specs.Verdicts.{Verdict, turned_away, unserved, served, is_framed, is_head_method, not_found_status, verdict_of}
-use Rattle.cy_model.proofs.Built.{has_whole}
+use Rattle.cy_model.specs.Verdicts.{Verdict, turned_away, unserved, served, is_head_method, not_found_status, verdict_of}
 use Rattle.cy_model.proofs.Moves.{may_begin-parts}
 use Rattle.cy_model.proofs.LeftToDo.{DueTakes, due_takes}
 use Rattle.cy_target.specs.Kept.{with_target}
@@ -57,19 +57,26 @@ turned_from limits rules size status to_head old new l k is same says refused_li
     ∙ sym (turned_line limits (l.begun + 1) size old.head l (verdict_of rules old.head) status is)
 
 -- a head that no rule serves begins and ends
-unserved_line : (limits : Limits) (number size : ℕ) (head : Head) (l : LineParts) (v : Verdict) (keep : Bool) → IsVerdict v (judged.Unserved keep) → line_with (due_by_verdict limits 0 number size head v) l ≡ after_end_of (keep && not (is_last_number limits.max_keep_alive number)) head.minor (error_answer_of not_found_status) (after_begin size false l)
-unserved_line limits number size head l (turned_away s) keep is = absurd is
-unserved_line limits number size head l (unserved f) keep is = ap (λ (k : Bool). after_end_of (k && not (is_last_number limits.max_keep_alive number)) head.minor (error_answer_of not_found_status) (after_begin size false l)) (sym is)
-unserved_line limits number size head l (served rule f) keep is = absurd is
+unserved_line : (limits : Limits) (number size : ℕ) (head : Head) (l : LineParts) (v : Verdict) (so : FramedSo) → IsVerdict v (judged.Unserved so)
+    → line_with (due_by_verdict limits 0 number size head v) l
+    ≡ after_end_of (so.keep && not (is_last_number limits.max_keep_alive number)) head.minor (error_answer_of not_found_status) (after_begin size so.body limits.max_trailer false l)
+unserved_line limits number size head l (turned_away s) so is = absurd is
+unserved_line limits number size head l (unserved f) so is =
+    ap (λ (k : Framed). after_end_of (k.keep && not (is_last_number limits.max_keep_alive number)) head.minor (error_answer_of not_found_status) (after_begin size k.body limits.max_trailer false l)) (sym is)
+unserved_line limits number size head l (served rule f) so is = absurd is
 
-pub unserved_from : (limits : Limits) (rules : List Rule) (size minor : ℕ) (said keep : Bool) (old new : RequestParts) (l begun k : LineParts) → IsVerdict (verdict_of rules old.head) (judged.Unserved said) → new ≡ with_target (target_of old.head.method old.head.target) old → keep ≡ (said && not (is_last_number limits.max_keep_alive (l.begun + 1))) → minor ≡ new.head.minor → begun ≡ after_begin size false l → k ≡ after_end_of keep minor (error_answer_of not_found_status) begun → k ≡ line_with (due_of_head limits rules size old.head l) l
-unserved_from limits rules size minor said keep old new l begun k is same kept numbered begin finished =
+pub unserved_from : (limits : Limits) (rules : List Rule) (size minor : ℕ) (so : FramedSo) (keep : Bool) (old new : RequestParts) (l begun k : LineParts)
+    → IsVerdict (verdict_of rules old.head) (judged.Unserved so) → new ≡ with_target (target_of old.head.method old.head.target) old
+    → keep ≡ (so.keep && not (is_last_number limits.max_keep_alive (l.begun + 1))) → minor ≡ new.head.minor
+    → begun ≡ after_begin size so.body limits.max_trailer false l → k ≡ after_end_of keep minor (error_answer_of not_found_status) begun
+    → k ≡ line_with (due_of_head limits rules size old.head l) l
+unserved_from limits rules size minor so keep old new l begun k is same kept numbered begin finished =
     finished
     ∙ ap (λ (v : Bool). after_end_of v minor (error_answer_of not_found_status) begun) kept
-    ∙ ap (λ (n : ℕ). after_end_of (said && not (is_last_number limits.max_keep_alive (l.begun + 1))) n (error_answer_of not_found_status) begun)
+    ∙ ap (λ (n : ℕ). after_end_of (so.keep && not (is_last_number limits.max_keep_alive (l.begun + 1))) n (error_answer_of not_found_status) begun)
     (numbered ∙ ap (λ (r : RequestParts). r.head.minor) same ∙ ap (λ (h : Head). h.minor) (head_kept (target_of old.head.method old.head.target) old))
-    ∙ ap (after_end_of (said && not (is_last_number limits.max_keep_alive (l.begun + 1))) old.head.minor (error_answer_of not_found_status)) begin
-    ∙ sym (unserved_line limits (l.begun + 1) size old.head l (verdict_of rules old.head) said is)
+    ∙ ap (after_end_of (so.keep && not (is_last_number limits.max_keep_alive (l.begun + 1))) old.head.minor (error_answer_of not_found_status)) begin
+    ∙ sym (unserved_line limits (l.begun + 1) size old.head l (verdict_of rules old.head) so is)
 
 -- how long a head is that is found
 pub found_bounds : (max_head max_fields : ℕ) (b : List ℕ) (n : ℕ) → answer_to (head_of max_head max_fields b) ≡ answer.Head n → (1 ≤ n) × (n ≤ length b)

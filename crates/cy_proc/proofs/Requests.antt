@@ -2,7 +2,7 @@
 use Rattle.std.proofs.Common.{◌≡◌, inl, inr, ℕ, Bool, true, false, cond, List, [], ◌∷◌, ◌++◌, map, take, Option, Some, None, is_some, refl, sym, ap, ◌∙◌, subst, ◌||◌, if◌then◌else◌}
 use Rattle.std.proofs.lemmas.List.{append-nil}
 use Rattle.cy_event.specs.declared.limits.Limits.{Limits}
-use Rattle.cy_event.specs.declared.steps.CloseCause.TheVariants.{InputEnd}
+use Rattle.cy_event.specs.declared.steps.CloseCause.{CloseCause}
 use Rattle.cy_event.specs.declared.steps.Event.{Event}
 use Rattle.cy_event.specs.declared.steps.Event.TheVariants as event
 use Rattle.cy_event.specs.declared.steps.Job.{Job}
@@ -13,13 +13,13 @@ use Rattle.cy_event.specs.Targets.{PathAndQuery}
 use Rattle.cy_target.specs.Kept.{with_target}
 use Rattle.cy_event.specs.Table.{state_after}
 use Rattle.cy_model.specs.Entries.{event_marks, is_closed_to, rested_event, sent_of}
-use Rattle.cy_model.specs.Folds.{ended_charts, is_open, is_served, part_of}
+use Rattle.cy_model.specs.Folds.{cause_of, ended_charts, is_open, is_served, part_of}
 use Rattle.cy_model.specs.Inputs.{room}
 use Rattle.cy_model.specs.Marks.{TakenUp, came, sent, ended, caused, Trace}
 use Rattle.cy_states.specs.Progress.{Progress}
 use Rattle.cy_model.specs.Settling.{rested, with_marks}
 use Rattle.cy_model.proofs.Built.{IsPlain, mark_plain}
-use Rattle.cy_proc.proofs.Plain.{ends_now, rested_is}
+use Rattle.cy_proc.proofs.Rests.{cause_now, rested_closed, rested_now, with_cause}
 use Rattle.cy_proc.specs.Lines.{LineParts, Represents}
 use Rattle.cy_proc.specs.declared.processor.Stage.{Stage}
 use Rattle.cy_proc.specs.declared.processor.Stage.TheVariants as stage
@@ -40,13 +40,16 @@ pub record SameRequests (T R : Trace) : Type 0 where
   pub folds : request_folds R ≡ request_folds T
   pub charts : ended_charts R ≡ ended_charts T
 
+caused_same : (t : ℕ) (T : Trace) (o : Option CloseCause) → SameRequests T (with_cause t T o)
+caused_same t T None = record { folds = refl; charts = refl }
+caused_same t T (Some k) = record { folds = refl; charts = refl }
+
 pub rested_same : (limits : Limits) (t : ℕ) (T : Trace) → IsPlain T → SameRequests T (rested limits t T)
-rested_same limits t T p =
-    subst (SameRequests T) (sym (rested_is limits t T p))
-    (elim (ends_now limits T) as (λ v. SameRequests T (if v then (t, caused InputEnd) ∷ T else T)) [
-      | true ↦ record { folds = refl; charts = refl }
-      | false ↦ record { folds = refl; charts = refl }
-    ])
+rested_same limits t T p = by_cause (cause_of T) refl
+  where
+    by_cause : (o : Option CloseCause) → cause_of T ≡ o → SameRequests T (rested limits t T)
+    by_cause None e = subst (SameRequests T) (sym (rested_now limits t T p e)) (caused_same t T (cause_now limits T))
+    by_cause (Some k) e = subst (SameRequests T) (sym (rested_closed limits t T p (ap is_some e))) (record { folds = refl; charts = refl })
 
 -- ---- events
 

@@ -20,7 +20,7 @@ use Rattle.cy_model.specs.Replies.{plain}
 use Rattle.cy_states.specs.Progress.{Progress, after_call, progress_of}
 use Rattle.cy_model.specs.Settling.{rested, with_marks}
 use Rattle.cy_model.proofs.Built.{IsPlain}
-use Rattle.cy_proc.proofs.Plain.{plain_job, rested_open}
+use Rattle.cy_proc.proofs.Plain.{plain_job}
 use Rattle.cy_proc.specs.Lines.{LineParts, Represents}
 use Rattle.cy_proc.specs.declared.processor.Stage.{Stage}
 use Rattle.cy_proc.specs.declared.processor.Stage.TheVariants as stage
@@ -29,7 +29,7 @@ use Rattle.cy_proc.specs.ProcessorAnswers.{Answers, Serves, ServesAfter, ended_i
 use Rattle.cy_proc.specs.ProcessorChanges.{after_job, job_at, owed_at}
 use Rattle.cy_proc.specs.Processors.{IsOfRequest, ProcessorParts, StandsForRequest, is_open_at, processor_parts, request_folds, service_by, stage_by}
 use Rattle.cy_proc.proofs.Built.{built_more}
-use Rattle.cy_proc.proofs.Lines.{marks_at, moved_stands, plainly, told_from}
+use Rattle.cy_proc.proofs.Lines.{marks_at, moved_stands, plainly, told_from, rested_open, same_input}
 use Rattle.cy_proc.proofs.Requests.{IsOpenBy, event_same, owed_request, serves_same, serving_request, stands_open, stands_request}
 
 -- ---- the answers to events and turns
@@ -44,15 +44,16 @@ event_answers limits at e b T old moved new p r o s later replied parts =
 
 -- a connection's line isn't touched by the marks of a service that begins
 began_service : (part : ℕ) (T : Trace) (l : LineParts) → Represents T l → Represents ((l.moment, called call.Run None) ∷ (l.moment, started (job.Service part)) ∷ T) l
-began_service part T l s = record {
+began_service part T l s = let i = s.sound.input in record {
   same = s.same;
   sound = record {
-    heads_came = s.sound.heads_came;
+    input = same_input T ((l.moment, called call.Run None) ∷ (l.moment, started (job.Service part)) ∷ T) i i.given i.heads_came i.told;
     took_past = s.sound.took_past;
     built = built_more l.moment (called call.Run None) ((l.moment, started (job.Service part)) ∷ T) refl (built_more l.moment (started (job.Service part)) T refl s.sound.built);
     calm = s.sound.calm;
   };
   none_later = marks_at (started (job.Service part) ∷ called call.Run None ∷ []) T l s;
+  at_rest = λ o calm. let r = s.at_rest o calm in record { good = r.good; goes_on = r.goes_on };
 }
 
 -- the service begins
@@ -134,7 +135,7 @@ same_number n = eq-eqb n n refl
 pub turn_answers : (limits : Limits) (at : ℕ) (T : Trace) (old new : LineParts) (p q : ProcessorParts) (r : Reply) → is_open_at p.stage ≡ true → Serves T old p → new ≡ at_moment at old → r ≡ job_reply (job_at p) → q ≡ after_job (job_at p) p → Answers T (turn_reply T (rested limits new.moment T)) (rested_turn limits new.moment T) (plain r) new q
 turn_answers limits at T old new p q r o s later replied parts =
     let m = new.moment in
-    let rests : rested limits m T ≡ T = rested_open limits m T (plainly T s.line.sound) (stands_open T p s.processor ∙ o) in
+    let rests : rested limits m T ≡ T = rested_open limits m T old s.line (stands_open T p s.processor ∙ o) in
     let owed : owed_after T (rested limits m T) ≡ job_at p =
     ap (owed_after T) rests
     ∙ ap (λ (v : Bool). if v then next_job T else None) (same_number (ended_count T))

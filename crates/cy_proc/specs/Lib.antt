@@ -1,3 +1,4 @@
+pub mod LineBodies
 pub mod Lines
 pub mod LineChanges
 pub mod LineAnswers

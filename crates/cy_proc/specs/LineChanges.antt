@@ -1,15 +1,18 @@
 -- What each thing that happens does to the parts of a line.
-use Rattle.std.specs.Prelude.{ℕ, ◌+◌, max, Bool, true, false, ◌&&◌, not, List, ◌++◌, length, take, drop, Option, Some, None, is_none, is_some, if◌then◌else◌}
+use Rattle.std.specs.Prelude.{ℕ, ◌+◌, max, Bool, true, false, ◌&&◌, ◌||◌, ◌==◌, nat_lt, not, List, ◌++◌, length, take, drop, Option, Some, None, is_none, is_some, if◌then◌else◌}
 use Rattle.cy_event.specs.declared.limits.Limits.{Limits}
 use Rattle.cy_event.specs.declared.steps.CloseCause.{CloseCause}
-use Rattle.cy_event.specs.declared.steps.CloseCause.TheVariants.{InputEnd, LastAnswer, Refused}
+use Rattle.cy_event.specs.declared.steps.CloseCause.TheVariants.{BadBody, InputEnd, LastAnswer, Refused, SwallowLimit}
 use Rattle.cy_event.specs.declared.steps.Event.{Event}
 use Rattle.cy_event.specs.declared.steps.Event.TheVariants as event
 use Rattle.cy_event.specs.declared.steps.Reply.{Reply}
 use Rattle.cy_event.specs.declared.steps.Reply.TheVariants as reply
 use Rattle.cy_event.specs.Answers.{Answer, Connection, answer_text, refusal_text}
+use Rattle.cy_event.specs.declared.framing.Framing.{Framing}
+use Rattle.cy_event.specs.Bodies.{is_bad}
 use Rattle.cy_event.specs.Heads.{Front, head_of}
 use Rattle.cy_event.specs.AnswerModes.{connection_of, counted}
+use Rattle.cy_in.specs.Intakes.{after_read, after_scan, after_swallow, is_whole, started, swallowed, taken_by}
 use Rattle.cy_model.specs.Entries.{is_closed_by, sent_by}
 use Rattle.cy_model.specs.Inputs.{room_by}
 use Rattle.cy_model.specs.Outputs.{begin_text, is_gone_by}
@@ -36,8 +39,26 @@ is_gone_line l = is_gone_by l.cause l.is_open l.unsent
 abbrev pub is_closed_line : Event → LineParts → Bool
 is_closed_line e l = is_closed_by e l.cause l.has_ended (is_gone_line l) false
 
+-- what waits of the body is scanned
+abbrev pub scanned_line : LineParts → LineParts
+scanned_line l = record l { body = after_scan l.body.max_trailer l.body l.unread }
+
+-- what waits of it is passed over
+abbrev pub passed_line : LineParts → LineParts
+passed_line l =
+    let next = after_swallow l.body.max_trailer l.body l.unread in
+    record l { body = next; unread = drop (taken_by l.body next) l.unread }
+
+-- one, and once the last request has ended the other
+abbrev pub gone_on : LineParts → LineParts
+gone_on l = if l.is_open || l.begun == 0 then scanned_line l else passed_line l
+
+-- bytes come behind those that wait
+abbrev pub with_more : List ℕ → LineParts → LineParts
+with_more b l = record l { unread = l.unread ++ b; came = l.came + length b }
+
 abbrev pub after_event : Event → List ℕ → LineParts → LineParts
-after_event event.In b l = record l { unread = l.unread ++ take (room_of l) b; came = l.came + length (take (room_of l) b) }
+after_event event.In b l = gone_on (with_more (take (room_of l) b) l)
 after_event event.End b l = record l { has_ended = true }
 after_event (event.Took n) b l = record l { unsent = drop (sent_from n l) l.unsent }
 
@@ -51,15 +72,28 @@ event_answer (event.Took n) b l = reply.Taken (sent_from n l)
 abbrev pub front_at : Limits → LineParts → Front
 front_at limits l = head_of limits.max_head limits.max_fields l.unread
 
-abbrev pub may_begin_line : LineParts → Bool
-may_begin_line l = may_begin_by l.is_open l.cause true l.unsent
+abbrev pub has_whole : LineParts → Bool
+has_whole l = is_whole l.body.scanned.stage
 
--- no further head can come; the last request had no body
+abbrev pub may_begin_line : LineParts → Bool
+may_begin_line l = may_begin_by l.is_open l.cause (has_whole l) l.unsent
+
+-- no more of the body can come, or no further head
 abbrev pub ends_at_rest : Limits → LineParts → Bool
-ends_at_rest limits l = may_begin_line l && (l.has_ended && is_awaited (front_at limits l))
+ends_at_rest limits l =
+    l.has_ended && (not (has_whole l) || (may_begin_line l && is_awaited (front_at limits l)))
+
+-- Why it closes as it stands, where there is no cause yet. The byte that makes a body bad is never passed over, so where
+-- more of it was passed over than may be that came before.
+abbrev pub cause_at_rest : Limits → LineParts → Option CloseCause
+cause_at_rest limits l =
+    if nat_lt limits.max_swallow (swallowed l.body) then Some SwallowLimit
+    else if is_bad l.body.scanned.stage then Some BadBody
+    else if ends_at_rest limits l then Some InputEnd
+    else None
 
 abbrev pub after_rest : Limits → LineParts → LineParts
-after_rest limits l = if ends_at_rest limits l then record l { cause = Some InputEnd } else l
+after_rest limits l = if is_none l.cause then record l { cause = cause_at_rest limits l } else l
 
 -- an event, and what follows of it
 abbrev pub after_told : Limits → Event → List ℕ → LineParts → LineParts
@@ -91,10 +125,11 @@ standing_of limits l =
 
 -- ---- taking up a head, and the end of its request
 
--- a head of this size is taken up, and `100 Continue` is written where it is due
-abbrev pub after_begin : ℕ → Bool → LineParts → LineParts
-after_begin size go_on l = record l {
+-- A head of this size is taken up, and `100 Continue` is written where it is due. What came of its body is scanned.
+abbrev pub after_begin : ℕ → Framing → ℕ → Bool → LineParts → LineParts
+after_begin size framing max_trailer go_on l = record l {
   unread = drop size l.unread;
+  body = after_scan max_trailer (started framing) (drop size l.unread);
   begun = l.begun + 1;
   unsent = l.unsent ++ begin_text go_on;
   is_open = true;
@@ -118,10 +153,19 @@ cause_after false None = Some LastAnswer
 abbrev pub connection_by : Bool → Option CloseCause → ℕ → Connection
 connection_by keep cause minor = connection_of (record { minor = minor; is_head = false; keep = keep && is_none cause }) counted
 
+-- the request is over, and what came of its body is passed over
+abbrev pub closed_request : Bool → LineParts → LineParts
+closed_request keep l = passed_line (record l { is_open = false; cause = cause_after keep l.cause })
+
 -- the request ends with this answer
 abbrev pub after_end_of : Bool → ℕ → Answer → LineParts → LineParts
-after_end_of keep minor a l = record l {
-  unsent = l.unsent ++ answer_text a l.moment (connection_by keep l.cause minor);
-  is_open = false;
-  cause = cause_after keep l.cause;
-}
+after_end_of keep minor a l =
+    closed_request keep (record l { unsent = l.unsent ++ answer_text a l.moment (connection_by keep l.cause minor) })
+
+-- ---- content
+
+-- a read of at most n bytes
+abbrev pub read_line : ℕ → LineParts → LineParts
+read_line n l =
+    let next = after_read n l.body l.unread in
+    record l { body = next; unread = drop (taken_by l.body next) l.unread }

@@ -1,6 +1,7 @@
 -- What it means that a processor answered rightly, together with the line of its connection.
-use Rattle.std.specs.Prelude.{◌≡◌, ℕ, Bool, true, false, List, ◌++◌, map, Some}
+use Rattle.std.specs.Prelude.{◌≡◌, ◌≤◌, ℕ, Bool, true, false, List, ◌++◌, drop, length, map, Some}
 use Rattle.cy_event.specs.declared.steps.Act.{Act}
+use Rattle.cy_event.specs.declared.steps.Act.TheVariants as act
 use Rattle.cy_event.specs.declared.steps.Event.{Event}
 use Rattle.cy_event.specs.declared.steps.Reply.{Reply}
 use Rattle.cy_event.specs.declared.steps.Reply.TheVariants as reply
@@ -67,3 +68,15 @@ abbrev pub AnswersEachAct : Act → List ℕ → LineParts → ProcessorParts �
 AnswersEachAct a b line processor r into l p =
     (T : Trace) → Serves T line processor
     → Answers T (callback_reply p.limits T a) (rested_callback p.limits l.moment T a b) (replied_in r into) l p
+
+-- ---- what a read gives
+
+-- there is room for as much as a read asks
+abbrev pub IsReadInto : Act → List ℕ → Type 0
+IsReadInto (act.Read n) into = n ≤ length into
+IsReadInto a into = Unit {0}
+
+-- nothing is given but what a reply counts, at the front
+abbrev pub GivesInto : Reply → List ℕ → List ℕ → Type 0
+GivesInto (reply.Got n) old new = drop n new ≡ drop n old
+GivesInto r old new = new ≡ old

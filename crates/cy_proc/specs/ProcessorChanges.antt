@@ -2,19 +2,23 @@
 use Rattle.std.specs.Prelude.{ℕ, ◌+◌, Bool, ◌&&◌, not, List, [], ◌++◌, length, take, Option, Some, None, if◌then◌else◌, ◌==◌}
 use Rattle.cy_event.specs.declared.limits.Limits.{Limits}
 use Rattle.cy_event.specs.declared.steps.Call.TheVariants as call
+use Rattle.cy_event.specs.declared.steps.CloseCause.{CloseCause}
 use Rattle.cy_event.specs.declared.steps.Job.{Job}
 use Rattle.cy_event.specs.declared.steps.Job.TheVariants as job
 use Rattle.cy_event.specs.declared.steps.Reply.{Reply}
 use Rattle.cy_event.specs.declared.steps.Reply.TheVariants as reply
 use Rattle.cy_event.specs.Answers.{Answer, after_put, error_answer, fresh_answer, takes}
+use Rattle.cy_event.specs.Framings.{bad_request}
 use Rattle.cy_event.specs.Heads.{Head}
+use Rattle.cy_in.specs.Intakes.{is_ready}
 use Rattle.cy_map.specs.declared.rule.Rule.{Rule}
+use Rattle.cy_model.specs.Endings.{is_bad_request}
 use Rattle.cy_model.specs.Marks.{TakenUp}
 use Rattle.cy_model.specs.Settling.{Due, nothing, refusal, not_found, request, due_by_front, due_by_verdict}
 use Rattle.cy_model.specs.Verdicts.{not_found_status, verdict_of}
 use Rattle.cy_states.specs.Progress.{after_call}
 use Rattle.cy_proc.specs.Lines.{LineParts}
-use Rattle.cy_proc.specs.LineChanges.{after_begin, after_end_of, after_refusal, front_at}
+use Rattle.cy_proc.specs.LineChanges.{after_begin, after_end_of, after_refusal, after_rest, front_at, read_line}
 use Rattle.cy_proc.specs.Processors.{ProcessorParts, table_of}
 use Rattle.cy_proc.specs.declared.processor.Stage.{Stage}
 use Rattle.cy_proc.specs.declared.processor.Stage.TheVariants as stage
@@ -33,8 +37,8 @@ due_of_head limits rules size head l = due_by_verdict limits 0 (l.begun + 1) siz
 abbrev pub line_with : Due → LineParts → LineParts
 line_with nothing l = l
 line_with (refusal status to_head) l = after_refusal status to_head l
-line_with (not_found r) l = after_end_of r.keep r.head.minor (error_answer not_found_status) (after_begin r.size r.go_on l)
-line_with (request r) l = after_begin r.size r.go_on l
+line_with (not_found r) l = after_end_of r.keep r.head.minor (error_answer not_found_status) (after_begin r.size r.framing r.max_trailer r.go_on l)
+line_with (request r) l = after_begin r.size r.framing r.max_trailer r.go_on l
 
 -- a free processor with a request
 abbrev pub with_request : Stage → TakenUp → ProcessorParts → ProcessorParts
@@ -92,6 +96,14 @@ answer_at p = after_put p.content fresh_answer
 abbrev pub after_return : ProcessorParts → ProcessorParts
 after_return p = record p { stage = stage.Over; progress = after_call p.progress call.Return; content = [] }
 
+-- the answer as it goes out: what was no request is told so
+abbrev pub answer_returned : Option CloseCause → ProcessorParts → Answer
+answer_returned cause p = if is_bad_request cause then error_answer bad_request else answer_at p
+
 -- the line after it
 abbrev pub line_returned : ProcessorParts → LineParts → LineParts
-line_returned p l = after_end_of p.keep p.table.head.minor (answer_at p) l
+line_returned p l = after_end_of p.keep p.table.head.minor (answer_returned l.cause p) l
+
+-- the line after a read of at most n bytes; one that comes to nothing is no step
+abbrev pub line_read : Limits → ℕ → LineParts → LineParts
+line_read limits n l = if is_ready l.body then after_rest limits (read_line n l) else l

@@ -4,6 +4,9 @@ ghost use Rattle.std.specs.Prelude.{◌≡◌, ◌≤◌, ◌+◌, ◌++◌, ◌
 ghost use Rattle.cy_event.specs.declared.limits.TheConstants.{GREATEST_MOMENT};
 ghost use Rattle.cy_model.specs.Settling.{begin_bound, is_awaited, is_last_number};
 ghost use Rattle.cy_proc.specs.LineAnswers.{AnswersEachEvent, RestsEach};
+ghost use Rattle.cy_in.specs.Intakes.{IsShort, content_read, is_ready, started};
+ghost use Rattle.cy_in.specs.Reads.{reply_of_read};
+ghost use Rattle.cy_model.specs.Endings.{is_bad_request};
 ghost use Rattle.cy_event.specs.Answers.{after_put, content_buffer, error_answer, fresh_answer};
 ghost use Rattle.cy_event.specs.declared.head.TheConstants.{FIELD_ROOM, HEAD_ROOM};
 ghost use Rattle.cy_head.specs.Answers.{answer_to, filled_by};
@@ -11,11 +14,12 @@ ghost use Rattle.cy_rings.specs.declared.kit.TheConstants.{IN_CAPACITY, OUT_CAPA
 ghost use Rattle.cy_proc.specs.AnswerBytes.{said};
 ghost use Rattle.cy_model.specs.Marks.{opened};
 ghost use Rattle.cy_proc.specs.Lines.{Represents};
-ghost use Rattle.cy_proc.specs.LineChanges.{after_begin, after_end_of, after_event, after_refusal, cause_after, connection_by, after_rest, after_told, at_moment, ends_at_rest, event_answer, front_at, is_closed_line, is_due, is_gone_line, may_begin_line, room_of, sent_from, standing_of, told_answer};
+ghost use Rattle.cy_proc.specs.LineChanges.{after_begin, after_end_of, after_event, after_refusal, cause_after, cause_at_rest, connection_by, after_rest, after_told, at_moment, event_answer, front_at, gone_on, is_closed_line, is_due, is_gone_line, may_begin_line, passed_line, read_line, room_of, scanned_line, sent_from, standing_of, told_answer};
 
 use crate::answer::{Connection, put_answer, put_begin, put_error};
-use cy_event::{CloseCause, Event, Limits, Reply, RequestHead, extend_in_room};
+use cy_event::{CloseCause, Event, Framing, Limits, Reply, RequestHead, extend_in_room};
 use cy_head::{Due, Front, head_due, head_front};
+use cy_in::{BodyIn, Scan};
 use cy_rings::{ConnKit, NoMemory};
 use std::alloc::Global;
 use std::marker::Model;
@@ -33,10 +37,13 @@ pub enum Standing {
     Gone,
 }
 
-/// What is kept of a connection outside of its request: the two rings, counts, marks and the cause to close it.
+/// What is kept of a connection outside of its request: the two rings, how far the body of the last request came, counts,
+/// marks and the cause to close it.
 #[derive(Drop)]
 pub struct Line {
     kit: ConnKit,
+    body: BodyIn,
+    max_trailer: u32,
     came: u64,
     begun: u64,
     is_open: bool,
@@ -46,15 +53,17 @@ pub struct Line {
 }
 
 impl Model for Line {
-    ghost use Rattle.std.specs.Prelude.{◌≡◌, ◌≤◌, ◌+◌, length, true};
+    ghost use Rattle.std.specs.Prelude.{◌≡◌, ◌≤◌, ◌+◌, None, length, true};
     ghost use Rattle.cy_model.specs.Inputs.{input_total};
     ghost use Rattle.cy_event.specs.declared.limits.TheConstants.{GREATEST_MOMENT};
+    ghost use Rattle.cy_proc.specs.LineBodies.{IsInRing};
     ghost use Rattle.cy_proc.specs.Lines.{LineParts, open_bound};
 
     ghost Value = { LineParts };
 
     ghost view = { λ l. record {
       unread = l.kit.input;
+      body = l.body;
       came = l.came;
       begun = l.begun;
       unsent = l.kit.output;
@@ -65,7 +74,9 @@ impl Model for Line {
     } };
 
     ghost invariant = { λ l. (l.begun + length l.kit.input ≤ l.came) × (l.came ≤ input_total)
-        × (l.is_open ≡ true → length l.kit.output ≤ open_bound) × (l.moment ≤ GREATEST_MOMENT) };
+        × (l.is_open ≡ true → length l.kit.output ≤ open_bound) × (l.moment ≤ GREATEST_MOMENT)
+        × IsInRing l.body l.kit.input l.came
+        × (l.is_open ≡ true → l.body.swallowed_from ≡ None) × (l.max_trailer ≡ l.body.max_trailer) };
 }
 
 /// Bytes that one connection takes in all.
@@ -83,7 +94,7 @@ impl Line {
     ///
     /// `NoMemory` where memory ran out.
     pub fn new(alloc: Global) -> Result<Line, NoMemory>
-        ensures new { IfOk result (λ line. line ≡ record { unread = []; came = 0; begun = 0; unsent = []; is_open = false; cause = None; has_ended = false; moment = 0 }) }
+        ensures new { IfOk result (λ line. line ≡ record { unread = []; body = started Framing.None; came = 0; begun = 0; unsent = []; is_open = false; cause = None; has_ended = false; moment = 0 }) }
 
         // It stands for a connection that was admitted at moment 0, and once a moment has come for one admitted then.
         ensures stands { IfOk result (λ line. Represents ((0, opened) ∷ []) line) }
@@ -91,6 +102,8 @@ impl Line {
     {
         Ok(Line {
             kit: ConnKit::new(alloc)?,
+            body: BodyIn::none(),
+            max_trailer: 0,
             came: 0,
             begun: 0,
             is_open: false,
@@ -103,10 +116,12 @@ impl Line {
     /// Leaves nothing of the connection, and takes no memory: the line is that of the next one, admitted at this moment.
     pub fn renew(&mut self, at: u64)
         requires moment { at ≤ GREATEST_MOMENT }
-        ensures new { self.new ≡ record { unread = []; came = 0; begun = 0; unsent = []; is_open = false; cause = None; has_ended = false; moment = at } }
+        ensures new { self.new ≡ record { unread = []; body = started Framing.None; came = 0; begun = 0; unsent = []; is_open = false; cause = None; has_ended = false; moment = at } }
         ensures stands { Represents ((at, opened) ∷ []) self.new }
     {
         self.kit.clear();
+        self.body = BodyIn::none();
+        self.max_trailer = 0;
         self.came = 0;
         self.begun = 0;
         self.is_open = false;
@@ -240,7 +255,11 @@ impl Line {
         ensures parts { self.new ≡ after_event event bytes.now self.old }
     {
         match event {
-            Event::In => Reply::Taken(self.take_in(bytes) as u64),
+            Event::In => {
+                let count = self.take_in(bytes);
+                self.go_on();
+                Reply::Taken(count as u64)
+            }
             Event::End => {
                 self.has_ended = true;
                 Reply::Done
@@ -258,6 +277,52 @@ impl Line {
         let count = self.kit.put_in(&bytes[..bytes.len().min(left)]);
         self.came += count as u64;
         count
+    }
+
+    /// The bytes that came go on in the body of the last request: they are scanned, and passed over once that has ended.
+    fn go_on(&mut self)
+        ensures { self.new ≡ gone_on self.old }
+    {
+        if self.is_open || self.begun == 0 {
+            self.scan();
+        } else {
+            self.pass_over();
+        }
+    }
+
+    /// Scans what waits of the body.
+    fn scan(&mut self)
+        ensures { self.new ≡ scanned_line self.old }
+    {
+        let limits = scanning(self.max_trailer);
+        let _found = self.body.scan(&mut self.kit, &limits);
+    }
+
+    /// Passes over what waits of the body of a request that has ended (RFC 9112, section 9.3).
+    fn pass_over(&mut self)
+        requires { self.old.is_open ≡ false }
+        ensures { self.new ≡ passed_line self.old }
+    {
+        let limits = scanning(self.max_trailer);
+        let _found = self.body.swallow(&mut self.kit, &limits);
+    }
+
+    /// Whether a read would give content of the open request, or tell its end.
+    pub(crate) fn is_ready(&self) -> bool
+        requires open { self.now.is_open ≡ true }
+        ensures { result ≡ is_ready self.now.body }
+    {
+        self.body.is_ready()
+    }
+
+    /// Gives content of the open request to the front of `into`, as a read of as many bytes is answered.
+    pub(crate) fn read(&mut self, into: &mut [u8]) -> Reply
+        requires open { self.old.is_open ≡ true }
+        ensures reply { result ≡ reply_of_read (length into.old) self.old.body self.old.unread }
+        ensures into { let content = content_read (length into.old) self.old.body self.old.unread in into.new ≡ content ++ drop (length content) into.old }
+        ensures parts { self.new ≡ read_line (length into.old) self.old }
+    {
+        self.body.read(&mut self.kit, into)
     }
 
     /// The socket took so many bytes, if so many wait for it.
@@ -291,15 +356,37 @@ impl Line {
     fn may_begin(&self) -> bool
         ensures { result ≡ may_begin_line self.now }
     {
-        !self.is_open && self.cause.is_none() && self.kit.out_len() <= BEGIN_BOUND
+        !self.is_open
+            && self.cause.is_none()
+            && self.body.found() == Scan::Whole
+            && self.kit.out_len() <= BEGIN_BOUND
     }
 
     /// Makes the moves of the container but taking up a head.
     pub(crate) fn rest(&mut self, limits: &Limits)
         ensures { self.new ≡ after_rest limits.now self.old }
     {
-        if self.may_begin() && self.has_ended && self.awaits_head(limits) {
-            self.cause = Some(CloseCause::InputEnd);
+        if self.cause.is_none() {
+            self.cause = self.cause_at_rest(limits);
+        }
+    }
+
+    /// Why it closes as it stands, where there is no cause yet: for its body, or for the end of its input inside a body or
+    /// where a head is awaited.
+    fn cause_at_rest(&mut self, limits: &Limits) -> Option<CloseCause>
+        ensures cause { result ≡ cause_at_rest limits.now self.old }
+        ensures same { self.new ≡ self.old }
+    {
+        if self.body.swallowed() > limits.max_swallow {
+            return Some(CloseCause::SwallowLimit);
+        }
+        match self.body.found() {
+            Scan::Bad(_) => Some(CloseCause::BadBody),
+            Scan::Partial if self.has_ended => Some(CloseCause::InputEnd),
+            Scan::Whole if self.has_ended && self.may_begin() && self.awaits_head(limits) => {
+                Some(CloseCause::InputEnd)
+            }
+            _ => None,
         }
     }
 
@@ -355,17 +442,22 @@ impl Line {
         self.cause = Some(CloseCause::Refused);
     }
 
-    /// Takes up a head of this size.
-    pub(crate) fn begin(&mut self, size: usize, go_on: bool)
+    /// Takes up a head of this size, whose body is framed so, with as many bytes of trailers at most.
+    pub(crate) fn begin(&mut self, size: usize, framing: Framing, max_trailer: u32, go_on: bool)
         requires some { 1 ≤ size }
         requires within { size ≤ length self.old.unread }
         requires room { length self.old.unsent ≤ begin_bound }
-        ensures { self.new ≡ after_begin size go_on self.old }
+        requires short { IsShort framing }
+        ensures { self.new ≡ after_begin size framing max_trailer go_on self.old }
     {
         self.kit.take_in(size);
         self.begun += 1;
         put_begin(&mut self.kit, go_on);
         self.is_open = true;
+        self.body.start(framing);
+        self.max_trailer = max_trailer;
+        let limits = scanning(max_trailer);
+        let _found = self.body.scan(&mut self.kit, &limits);
     }
 
     /// Ends the request with the answer of status 200 that has this content.
@@ -378,6 +470,7 @@ impl Line {
         put_answer(&mut self.kit, content, self.moment, connection);
         self.is_open = false;
         self.cause = cause_after(keep, self.cause);
+        self.pass_over();
     }
 
     /// Ends the request with the answer that tells of an error.
@@ -390,6 +483,14 @@ impl Line {
         put_error(&mut self.kit, status, true, self.moment, connection);
         self.is_open = false;
         self.cause = cause_after(keep, self.cause);
+        self.pass_over();
+    }
+
+    /// Whether the body of the open request was none: it is bad, or the input ended inside it.
+    pub(crate) fn is_bad_request(&self) -> bool
+        ensures { result ≡ is_bad_request self.now.cause }
+    {
+        matches!(self.cause, Some(CloseCause::BadBody | CloseCause::InputEnd))
     }
 
     /// What an answer says of the connection.
@@ -404,6 +505,15 @@ impl Line {
             Connection::KeepAlive
         }
     }
+}
+
+/// Limits by which a body is scanned that may have so many bytes of trailers: those as its request began.
+fn scanning(max_trailer: u32) -> Limits
+    ensures { result.max_trailer ≡ max_trailer }
+{
+    let mut limits = Limits::standard(1);
+    limits.max_trailer = max_trailer;
+    limits
 }
 
 /// Why a connection closes after an answer: an answer that says so is a cause, where there is none yet.

@@ -1,16 +1,18 @@
 //! One request's life: the head that was taken up, the callback that runs, and the answer.
-ghost use Rattle.std.specs.Prelude.{◌≡◌, ◌≤◌, ◌<◌, ◌+◌, ℕ, [], length, slice_get, max, false, true, Some, IfOk};
+ghost use Rattle.std.specs.Prelude.{◌≡◌, ◌≤◌, ◌<◌, ◌+◌, ◌++◌, ℕ, [], drop, length, slice_get, max, false, true, Some, IfOk};
 ghost use Rattle.cy_event.specs.declared.limits.TheConstants.{GREATEST_MOMENT};
 ghost use Rattle.cy_event.specs.declared.head.TheConstants.{HEAD_ROOM, FIELD_ROOM};
 ghost use Rattle.cy_head.specs.Answers.{just_read};
+ghost use Rattle.cy_in.specs.Intakes.{content_read};
+ghost use Rattle.cy_in.specs.Reads.{reply_of_read};
 ghost use Rattle.cy_model.specs.Entries.{job_reply};
 ghost use Rattle.cy_model.specs.Jobs.{next_job};
 ghost use Rattle.cy_model.specs.Marks.{Trace};
 ghost use Rattle.cy_model.specs.Settling.{begin_bound};
 ghost use Rattle.cy_model.specs.Steps.{IsWithinBytes};
 ghost use Rattle.cy_proc.specs.LineChanges.{after_refusal, is_due, work_of};
-ghost use Rattle.cy_proc.specs.ProcessorAnswers.{AnswersEachAct, AnswersEachEvent, AnswersEachTurn, Serves, TakesUpEach, is_ended};
-ghost use Rattle.cy_proc.specs.ProcessorChanges.{after_job, after_return, after_write, due_at, due_of_head, job_at, line_returned, line_with, processor_with, write_reply};
+ghost use Rattle.cy_proc.specs.ProcessorAnswers.{AnswersEachAct, AnswersEachEvent, AnswersEachTurn, GivesInto, IsReadInto, Serves, TakesUpEach, is_ended};
+ghost use Rattle.cy_proc.specs.ProcessorChanges.{after_job, after_return, after_write, due_at, due_of_head, job_at, line_read, line_returned, line_with, processor_with, write_reply};
 ghost use Rattle.cy_proc.specs.Processors.{IsIdle, StandsForRequest, fresh_processor, has_request_at, is_free_at, is_open_at, is_over_at, part_at, request_folds};
 
 use crate::line::Line;
@@ -159,20 +161,21 @@ impl Processor {
         self.begin_job()
     }
 
-    /// The callback that runs acts.
+    /// The callback that runs acts. A read gives content to the front of `into`, which has room for as much as it asks.
     pub fn act(
         &mut self,
         line: &mut Line,
         at: u64,
         act: &Act,
         bytes: &[u8],
-        _into: &mut [u8],
+        into: &mut [u8],
     ) -> Reply
         requires open { is_open_at self.old.stage ≡ true }
         requires line { line.old.is_open ≡ true }
         requires moment { at ≤ GREATEST_MOMENT }
         requires within { IsWithinBytes act.now bytes.now }
-        ensures answers { AnswersEachAct act.now bytes.now line.old self.old result _into.new line.new self.new }
+        requires into { IsReadInto act.now into.old }
+        ensures answers { AnswersEachAct act.now bytes.now line.old self.old result into.new line.new self.new }
         ensures answered { is_ended result ≡ false }
         ensures together { line.new.is_open ≡ is_open_at self.new.stage }
         ensures opened { is_free_at self.new.stage ≡ false }
@@ -180,14 +183,15 @@ impl Processor {
         ensures work { work_of line.new ≤ work_of line.old }
         ensures limits { self.new.limits ≡ self.old.limits }
         ensures moment { line.new.moment ≡ max line.old.moment at }
-        ensures into { _into.new ≡ _into.old }
+        ensures into { GivesInto result into.old into.new }
     {
         line.advance(at);
         let Stage::Serving = self.stage else {
             return Reply::NotActive;
         };
         match *act {
-            Act::Write(_) if line.cause().is_some() => Reply::Closed,
+            Act::Read(_) | Act::Write(_) if line.cause().is_some() => Reply::Closed,
+            Act::Read(count) => self.read(line, &mut into[..count as usize]),
             Act::Write(count) => self.write(&bytes[..count as usize]),
             Act::Return => {
                 self.finish(line);
@@ -315,17 +319,17 @@ impl Processor {
                 let to_head = self.table.method() == b"HEAD".as_slice();
                 self.refuse(line, status, to_head);
             }
-            Judgement::Unserved { keep } => {
-                self.keep = line.next_persists(keep, &self.limits);
-                line.begin(size, false);
+            Judgement::Unserved { framed } => {
+                self.keep = line.next_persists(framed.keep, &self.limits);
+                line.begin(size, framed.body, self.limits.max_trailer, false);
                 line.end_with_error(NOT_FOUND, self.keep, self.table.minor());
                 self.stage = Stage::Over;
             }
-            Judgement::Served { found, keep, go_on } => {
-                self.keep = line.next_persists(keep, &self.limits);
+            Judgement::Served { found, framed } => {
+                self.keep = line.next_persists(framed.keep, &self.limits);
                 self.part = found.part;
                 self.can_async = found.can_async;
-                line.begin(size, go_on);
+                line.begin(size, framed.body, self.limits.max_trailer, framed.go_on);
                 self.stage = Stage::Owed;
             }
         }
@@ -366,6 +370,23 @@ impl Processor {
         Reply::Begun(job)
     }
 
+    /// Gives content of the request to the front of `into`, as much as waits and fits. Where none waits it tells the end of
+    /// a whole body, and else that there is nothing yet, which is no step.
+    fn read(&mut self, line: &mut Line, into: &mut [u8]) -> Reply
+        requires line { line.old.is_open ≡ true }
+        ensures reply { result ≡ reply_of_read (length into.old) line.old.body line.old.unread }
+        ensures into { let content = content_read (length into.old) line.old.body line.old.unread in into.new ≡ content ++ drop (length content) into.old }
+        ensures line { line.new ≡ line_read self.old.limits (length into.old) line.old }
+        ensures same { self.new ≡ self.old }
+    {
+        if !line.is_ready() {
+            return Reply::Again;
+        }
+        let reply = line.read(into);
+        line.rest(&self.limits);
+        reply
+    }
+
     /// Puts content, as much as there is room for; `Again` where there is none and some is asked.
     fn write(&mut self, bytes: &[u8]) -> Reply
         ensures reply { result ≡ write_reply self.old (length bytes.now) }
@@ -380,7 +401,7 @@ impl Processor {
         Reply::Taken(count as u64)
     }
 
-    /// The service returns: the request ends, and its answer is written.
+    /// The service returns: the request ends, and its answer is written, or that it was no request.
     fn finish(&mut self, line: &mut Line)
         requires serving { self.old.stage ≡ Stage.Serving }
         requires open { line.old.is_open ≡ true }
@@ -388,7 +409,11 @@ impl Processor {
         ensures request { self.new ≡ after_return self.old }
     {
         let _done = self.machine.call(Call::Return);
-        line.end_with_content(&self.content, self.keep, self.table.minor());
+        if line.is_bad_request() {
+            line.end_with_error(BAD_REQUEST, self.keep, self.table.minor());
+        } else {
+            line.end_with_content(&self.content, self.keep, self.table.minor());
+        }
         self.content.clear();
         self.stage = Stage::Over;
     }

@@ -37,6 +37,9 @@ pub mod Traces34Rows
 pub mod Traces35Rows
 pub mod Traces36Rows
 pub mod Traces37Rows
+pub mod Traces38Rows
+pub mod Traces39Rows
+pub mod Traces40Rows
 pub mod OutputWaits
 pub mod StateTableRows
 pub mod VerdictRows
@@ -44,6 +47,9 @@ pub mod RefusalRows
 pub mod LimitRows
 pub mod TakesRows
 pub mod SwallowRows
+pub mod ReadRows
+pub mod BodyRows
+pub mod PassedRows
 pub mod TickRows
 pub mod ConstantRows
 pub mod NameRows

@@ -6,6 +6,7 @@ use Rattle.std.specs.Fmt.{digits}
 use Rattle.cy_event.specs.declared.framing.Framing.TheVariants as framing
 use Rattle.cy_event.specs.declared.steps.CloseCause.TheVariants as cause
 use Rattle.cy_event.specs.Answers.{head_text, refusal_text}
+use Rattle.cy_event.specs.Bodies.{bodies_on_literals}
 use Rattle.cy_event.specs.Dates.{count_off, date_at}
 use Rattle.cy_event.specs.Framings.{Framed, framings_on_literals}
 use Rattle.cy_event.specs.Heads.{Head, heads_on_literals}
@@ -199,10 +200,32 @@ refused_closes = refl
 refused_leaves_none : request_of turned ≡ None
 refused_leaves_none = refl
 
--- a body where no rule serves the path: the head is refused, and no request begins
+-- a body where no rule serves the path: a request begins with its framing, and ends at once
 abbrev post : List ℕ
 post = codes "POST / HTTP/1.1\r\nHost: a\r\nContent-Length: 0\r\n\r\n"
 
-unserved_body_is_refused : came_to [] post ≡ refused_as 501 false post
-unfolding words_on_literals
-unserved_body_is_refused = refl
+unserved_body_ends : came_to [] post
+    ≡ (0, over) ∷ (0, error_answer 404) ∷ (
+      0,
+      began (record {
+        place = 0;
+        size = 47;
+        head = record {
+          method = codes "POST";
+          target = codes "/";
+          minor = 1;
+          fields = record { name = codes "Host"; value = codes "a" }
+              ∷ record { name = codes "Content-Length"; value = codes "0" }
+              ∷ [];
+        };
+        framing = framing.Length 0;
+        max_trailer = 8192;
+        async_timeout = 30000;
+        part = 0;
+        can_async = false;
+        keep = true;
+        go_on = false;
+      }),
+    ) ∷ (0, came post) ∷ (0, opened) ∷ []
+unfolding words_on_literals bodies_on_literals head_text digits date_at count_off
+unserved_body_ends = refl

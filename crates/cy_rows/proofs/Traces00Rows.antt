@@ -6,8 +6,10 @@ use Rattle.std.specs.Str.{is_utf8, chars}
 use lib.Utf8.{encode}
 use Rattle.cy_event.specs.declared.framing.Framing.TheVariants as framing
 use Rattle.cy_event.specs.declared.limits.Limits.{Limits}
+use Rattle.cy_event.specs.declared.steps.Act.TheVariants as act
 use Rattle.cy_event.specs.declared.steps.Call.TheVariants as call
 use Rattle.cy_event.specs.declared.steps.Job.TheVariants as job
+use Rattle.cy_event.specs.declared.steps.Reply.TheVariants as reply
 use Rattle.cy_event.specs.declared.steps.State.TheVariants as state
 use Rattle.cy_event.specs.Answers.{head_text}
 use Rattle.cy_event.specs.Dates.{date_at, count_off}
@@ -15,8 +17,10 @@ use Rattle.cy_event.specs.Framings.{framed}
 use Rattle.cy_event.specs.Heads.{is_name_byte, trimmed, front_length, whole_head, host_fits, head_of}
 use Rattle.cy_event.specs.Targets.{target_of}
 use Rattle.cy_map.specs.declared.rule.Rule.{Rule}
+use Rattle.cy_model.specs.Entries.{on_act, reply_to}
 use Rattle.cy_model.specs.Jobs.{next_job}
 use Rattle.cy_model.specs.Marks.{Trace, input_side, opened, ended, came, began, called, started, parked, back, end_given, read_listener_set, write_listener_set, field_added, put, flushed}
+use Rattle.cy_model.specs.Replies.{plain}
 use Rattle.cy_model.specs.Settling.{settled}
 use Rattle.cy_model.specs.Ticks.{tick_move}
 use Rattle.cy_model.specs.Verdicts.{verdict_of}
@@ -151,6 +155,11 @@ trace_000-05-next : next_job (trace_000_04)
     ≡ (Some (job.Service 0))
 unfolding head_text digits date_at count_off is_name_byte
 trace_000-05-next = refl
+
+trace_000-06-reply : reply_to trace_000_limits trace_000_rules 0 trace_000_05 (on_act (act.Read 0) [])
+    ≡ plain reply.GotEnd
+unfolding reply_to head_text digits date_at count_off is_name_byte
+trace_000-06-reply = refl
 
 trace_000-06-settled : settled trace_000_limits trace_000_rules 0 ((0, end_given) ∷ trace_000_05)
     ≡ trace_000_06

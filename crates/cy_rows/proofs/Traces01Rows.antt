@@ -6,9 +6,11 @@ use Rattle.std.specs.Str.{is_utf8, chars}
 use lib.Utf8.{encode}
 use Rattle.cy_event.specs.declared.framing.Framing.TheVariants as framing
 use Rattle.cy_event.specs.declared.limits.Limits.{Limits}
+use Rattle.cy_event.specs.declared.steps.Act.TheVariants as act
 use Rattle.cy_event.specs.declared.steps.Call.TheVariants as call
 use Rattle.cy_event.specs.declared.steps.CloseCause.TheVariants as cause
 use Rattle.cy_event.specs.declared.steps.Job.TheVariants as job
+use Rattle.cy_event.specs.declared.steps.Reply.TheVariants as reply
 use Rattle.cy_event.specs.declared.steps.State.TheVariants as state
 use Rattle.cy_event.specs.Answers.{head_text}
 use Rattle.cy_event.specs.Dates.{date_at, count_off}
@@ -16,6 +18,7 @@ use Rattle.cy_event.specs.Framings.{framed}
 use Rattle.cy_event.specs.Heads.{is_name_byte, trimmed, front_length, whole_head, host_fits, head_of}
 use Rattle.cy_event.specs.Targets.{target_of}
 use Rattle.cy_map.specs.declared.rule.Rule.{Rule}
+use Rattle.cy_model.specs.Entries.{on_act, reply_to}
 use Rattle.cy_model.specs.Jobs.{next_job}
 use Rattle.cy_model.specs.Marks.{Trace, input_side, opened, ended, came, sent, began, called, started, parked, back, given, read_listener_set, write_listener_set, answer_reset, caused}
 use Rattle.cy_model.specs.Settling.{settled}
@@ -171,6 +174,11 @@ trace_004-01-settled : settled trace_004_limits trace_004_rules 0 ((0, opened) �
 unfolding settled head_text digits date_at count_off is_name_byte trimmed front_length whole_head host_fits head_of verdict_of target_of framed is_utf8 chars encode
 trace_004-01-settled = refl
 
+trace_004-02-settled : settled trace_004_limits trace_004_rules 0 ((0, came (codes "POST /b HTTP/1.0\r\nHost: a\r\nConnection: keep-alive\r\nContent-Length: 20000\r\n\r\n")) ∷ trace_004_01)
+    ≡ trace_004_02
+unfolding settled head_text digits date_at count_off is_name_byte trimmed front_length whole_head host_fits head_of verdict_of target_of framed is_utf8 chars encode
+trace_004-02-settled = refl
+
 trace_004-03-next : next_job (trace_004_02)
     ≡ (Some (job.Service 0))
 unfolding head_text digits date_at count_off is_name_byte
@@ -206,6 +214,11 @@ trace_004-09-next : next_job (trace_004_08)
 unfolding head_text digits date_at count_off is_name_byte
 trace_004-09-next = refl
 
+trace_004-10-reply : reply_to trace_004_limits trace_004_rules 0 trace_004_09 (on_act (act.Read 5) [])
+    ≡ record { reply = reply.Got 5; got = (codes "zazzd") }
+unfolding reply_to head_text digits date_at count_off is_name_byte
+trace_004-10-reply = refl
+
 trace_004-10-settled : settled trace_004_limits trace_004_rules 0 ((0, given 5) ∷ trace_004_09)
     ≡ trace_004_10
 unfolding settled head_text digits date_at count_off is_name_byte trimmed front_length whole_head host_fits head_of verdict_of target_of framed is_utf8 chars encode
@@ -220,6 +233,11 @@ trace_004-13-next : next_job (trace_004_12)
     ≡ (Some job.Writable)
 unfolding head_text digits date_at count_off is_name_byte
 trace_004-13-next = refl
+
+trace_004-14-reply : reply_to trace_004_limits trace_004_rules 0 trace_004_13 (on_act (act.Read 1) [])
+    ≡ record { reply = reply.Got 1; got = (codes "d") }
+unfolding reply_to head_text digits date_at count_off is_name_byte
+trace_004-14-reply = refl
 
 trace_004-14-settled : settled trace_004_limits trace_004_rules 0 ((0, given 1) ∷ trace_004_13)
     ≡ trace_004_14

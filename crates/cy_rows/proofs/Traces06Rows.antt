@@ -16,146 +16,76 @@ use Rattle.cy_event.specs.Framings.{framed}
 use Rattle.cy_event.specs.Heads.{is_name_byte, trimmed, front_length, whole_head, host_fits, head_of}
 use Rattle.cy_event.specs.Targets.{target_of}
 use Rattle.cy_map.specs.declared.rule.Rule.{Rule}
+use Rattle.cy_model.specs.Endings.{end_marks}
 use Rattle.cy_model.specs.Jobs.{next_job}
-use Rattle.cy_model.specs.Marks.{Trace, input_side, opened, came, sent, began, called, started, parked, back, end_given, put, error_answer, over, caused, broken}
+use Rattle.cy_model.specs.Marks.{Trace, opened, came, sent, began, called, started, back, listened, read_listener_set, length_set, over, caused, broken}
 use Rattle.cy_model.specs.Settling.{settled}
 use Rattle.cy_model.specs.Ticks.{tick_move}
 use Rattle.cy_model.specs.Verdicts.{verdict_of}
 use Rattle.cy_rows.specs.Told.{answer_told, connection_told, open_told, request_told}
 
-abbrev trace_025_limits : Limits
-trace_025_limits = record { max_connections = 256; max_head = 8192; max_fields = 100; max_keep_alive = pos 100; connection_timeout = 20000; async_timeout = 30000; max_swallow = 2097152; max_trailer = 12; parts = 3 }
+abbrev trace_022_limits : Limits
+trace_022_limits = record { max_connections = 256; max_head = 8192; max_fields = 100; max_keep_alive = pos 100; connection_timeout = 20000; async_timeout = 30000; max_swallow = 2097152; max_trailer = 8192; parts = 3 }
 
-abbrev trace_025_rules : List Rule
-trace_025_rules = record { pattern = (codes "/"); part = 0; can_async = true } ∷ record { pattern = (codes "/a"); part = 1; can_async = true } ∷ record { pattern = (codes "/x/*"); part = 2; can_async = false } ∷ []
+abbrev trace_022_rules : List Rule
+trace_022_rules = record { pattern = (codes "/"); part = 0; can_async = true } ∷ record { pattern = (codes "/a"); part = 1; can_async = true } ∷ record { pattern = (codes "/x/*"); part = 2; can_async = false } ∷ []
 
-abbrev trace_025_01 : Trace
-trace_025_01 = (0, opened) ∷ []
+abbrev trace_022_01 : Trace
+trace_022_01 = (0, opened) ∷ []
 
-abbrev trace_025_02 : Trace
-trace_025_02 = (0, came []) ∷ trace_025_01
+abbrev trace_022_03 : Trace
+trace_022_03 = (0, began (record { place = 0; size = 66; head = record { method = (codes "GET"); target = (codes "/b"); minor = 1; fields = record { name = (codes "Host"); value = (codes "localhost:8080") } ∷ record { name = (codes "Content-Length"); value = (codes "1") } ∷ record { name = (codes "X"); value = (codes "l") } ∷ [] }; framing = (framing.Length 1); max_trailer = 8192; async_timeout = 30000; part = 0; can_async = true; keep = true; go_on = false })) ∷ (0, came (codes "GET /b HTTP/1.1\r\nHost: localhost:8080\r\nContent-Length: 1\r\nX: l\r\n\r\na")) ∷ trace_022_01
 
-abbrev trace_025_03 : Trace
-trace_025_03 = (0, came (codes "PO")) ∷ trace_025_02
+abbrev trace_022_04 : Trace
+trace_022_04 = (0, called call.Run None) ∷ (0, started (job.Service 0)) ∷ trace_022_03
 
-abbrev trace_025_05 : Trace
-trace_025_05 = (20000, broken) ∷ (20000, caused cause.IdleTimeout) ∷ trace_025_03
+abbrev trace_022_05 : Trace
+trace_022_05 = (0, called call.Start None) ∷ trace_022_04
 
-trace_025-connection : connection_told trace_025_05
+abbrev trace_022_06 : Trace
+trace_022_06 = (0, length_set 5) ∷ trace_022_05
+
+abbrev trace_022_07 : Trace
+trace_022_07 = (0, called call.CompleteOwn None) ∷ trace_022_06
+
+abbrev trace_022_08 : Trace
+trace_022_08 = (0, caused cause.ShortAnswer) ∷ (0, over) ∷ (0, called call.Return None) ∷ (0, called call.Return None) ∷ (0, back) ∷ trace_022_07
+
+abbrev trace_022_10 : Trace
+trace_022_10 = (20000, broken) ∷ trace_022_08
+
+trace_022-connection : connection_told trace_022_10
     ≡ record {
-      came = 2;
-      consumed = 0;
-      room = 16382;
+      came = 67;
+      consumed = 67;
+      room = 16384;
       has_ended = false;
-      cause = (Some cause.IdleTimeout);
+      cause = (Some cause.ShortAnswer);
       is_broken = true;
       is_gone = true;
       is_open = false;
-      begun = 0;
-      output = [];
-      took = 0;
-      unsent = 0;
-      idle_since = 0;
-      next_job = None;
-      charts = [];
-    }
-unfolding head_text digits date_at count_off is_name_byte
-trace_025-connection = refl
-
-trace_025-01-settled : settled trace_025_limits trace_025_rules 0 ((0, opened) ∷ [])
-    ≡ trace_025_01
-unfolding settled head_text digits date_at count_off is_name_byte trimmed front_length whole_head host_fits head_of verdict_of target_of framed is_utf8 chars encode
-trace_025-01-settled = refl
-
-trace_025-02-settled : settled trace_025_limits trace_025_rules 0 ((0, came []) ∷ trace_025_01)
-    ≡ trace_025_02
-unfolding settled head_text digits date_at count_off is_name_byte trimmed front_length whole_head host_fits head_of verdict_of target_of framed is_utf8 chars encode
-trace_025-02-settled = refl
-
-trace_025-03-settled : settled trace_025_limits trace_025_rules 0 ((0, came (codes "PO")) ∷ trace_025_02)
-    ≡ trace_025_03
-unfolding settled head_text digits date_at count_off is_name_byte trimmed front_length whole_head host_fits head_of verdict_of target_of framed is_utf8 chars encode
-trace_025-03-settled = refl
-
-trace_025-04-tick : tick_move trace_025_limits 19999 trace_025_03
-    ≡ None
-unfolding head_text digits date_at count_off is_name_byte
-trace_025-04-tick = refl
-
-trace_025-05-tick : tick_move trace_025_limits 20000 trace_025_03
-    ≡ Some (caused cause.IdleTimeout ∷ broken ∷ [])
-unfolding head_text digits date_at count_off is_name_byte
-trace_025-05-tick = refl
-
-trace_025-05-settled : settled trace_025_limits trace_025_rules 20000 ((20000, broken) ∷ (20000, caused cause.IdleTimeout) ∷ trace_025_03)
-    ≡ trace_025_05
-unfolding settled head_text digits date_at count_off is_name_byte trimmed front_length whole_head host_fits head_of verdict_of target_of framed is_utf8 chars encode
-trace_025-05-settled = refl
-
-trace_025-06-tick : tick_move trace_025_limits 20000 trace_025_05
-    ≡ None
-unfolding head_text digits date_at count_off is_name_byte
-trace_025-06-tick = refl
-
-abbrev trace_026_limits : Limits
-trace_026_limits = record { max_connections = 256; max_head = 8192; max_fields = 100; max_keep_alive = pos 100; connection_timeout = 20000; async_timeout = 30000; max_swallow = 2097152; max_trailer = 12; parts = 3 }
-
-abbrev trace_026_rules : List Rule
-trace_026_rules = record { pattern = (codes "/"); part = 0; can_async = true } ∷ record { pattern = (codes "/a"); part = 1; can_async = true } ∷ record { pattern = (codes "/x/*"); part = 2; can_async = false } ∷ []
-
-abbrev trace_026_01 : Trace
-trace_026_01 = (0, opened) ∷ []
-
-abbrev trace_026_02 : Trace
-trace_026_02 = (0, began (record { place = 0; size = 51; head = record { method = (codes "GET"); target = (codes "/a%20b;p=1/c"); minor = 0; fields = record { name = (codes "Expect"); value = (codes "100-Continue") } ∷ [] }; framing = framing.None; max_trailer = 12; async_timeout = 30000; part = 0; can_async = true; keep = false; go_on = false })) ∷ (0, came (codes "GET /a%20b;p=1/c HTTP/1.0\r\nExpect: 100-Continue\r\n\r\n\n\r\nHEAD /b HTTP/1.0\r\nHost: [::1]:80\r\nContent-Length: 3\r\n\r\nczdPUT /q.do HTTP/1.1\r\nHost: a\r\nContent-Length: 1\r\n\r\nc")) ∷ trace_026_01
-
-abbrev trace_026_03 : Trace
-trace_026_03 = (0, came (71 ∷ 69 ∷ 84 ∷ 32 ∷ 47 ∷ 32 ∷ 72 ∷ 84 ∷ 84 ∷ 80 ∷ 47 ∷ 49 ∷ 46 ∷ 49 ∷ 13 ∷ 10 ∷ 72 ∷ 111 ∷ 115 ∷ 116 ∷ 58 ∷ 32 ∷ 108 ∷ 111 ∷ 99 ∷ 97 ∷ 108 ∷ 104 ∷ 111 ∷ 115 ∷ 116 ∷ 58 ∷ 56 ∷ 48 ∷ 56 ∷ 48 ∷ 13 ∷ 10 ∷ 13 ∷ 10 ∷ 71 ∷ 69 ∷ 84 ∷ 32 ∷ 47 ∷ 32 ∷ 72 ∷ 84 ∷ 84 ∷ 80 ∷ 47 ∷ 49 ∷ 46 ∷ 49 ∷ 13 ∷ 10 ∷ 72 ∷ 111 ∷ 115 ∷ 116 ∷ 58 ∷ 32 ∷ 13 ∷ 10 ∷ 84 ∷ 114 ∷ 97 ∷ 110 ∷ 115 ∷ 102 ∷ 101 ∷ 114 ∷ 45 ∷ 69 ∷ 110 ∷ 99 ∷ 111 ∷ 100 ∷ 105 ∷ 110 ∷ 103 ∷ 58 ∷ 32 ∷ 67 ∷ 104 ∷ 117 ∷ 110 ∷ 107 ∷ 101 ∷ 100 ∷ 13 ∷ 10 ∷ 13 ∷ 10 ∷ 48 ∷ 49 ∷ 59 ∷ 120 ∷ 61 ∷ 49 ∷ 13 ∷ 10 ∷ 107 ∷ 13 ∷ 10 ∷ 97 ∷ 13 ∷ 10 ∷ 108 ∷ 107 ∷ 108 ∷ 107 ∷ 108 ∷ 107 ∷ 112 ∷ 107 ∷ 108 ∷ 112 ∷ 13 ∷ 10 ∷ 48 ∷ 48 ∷ 48 ∷ 51 ∷ 9 ∷ 32 ∷ 59 ∷ 32 ∷ 122 ∷ 61 ∷ 34 ∷ 113 ∷ 34 ∷ 13 ∷ 10 ∷ 112 ∷ 112 ∷ 109 ∷ 13 ∷ 10 ∷ 48 ∷ 59 ∷ 108 ∷ 97 ∷ 115 ∷ 116 ∷ 13 ∷ 10 ∷ 88 ∷ 45 ∷ 83 ∷ 117 ∷ 109 ∷ 58 ∷ 9 ∷ 32 ∷ 55 ∷ 32 ∷ 13 ∷ 10 ∷ 81 ∷ 58 ∷ 128 ∷ 255 ∷ 13 ∷ 10 ∷ 84 ∷ 58 ∷ 32 ∷ 119 ∷ 13 ∷ 10 ∷ 13 ∷ 10 ∷ [])) ∷ trace_026_02
-
-abbrev trace_026_04 : Trace
-trace_026_04 = (0, called call.Run None) ∷ (0, started (job.Service 0)) ∷ trace_026_03
-
-abbrev trace_026_05 : Trace
-trace_026_05 = (0, called call.Start None) ∷ trace_026_04
-
-abbrev trace_026_06 : Trace
-trace_026_06 = (0, called call.DispatchOther (Some 2)) ∷ trace_026_05
-
-abbrev trace_026_07 : Trace
-trace_026_07 = (0, end_given) ∷ trace_026_06
-
-trace_026-connection : connection_told trace_026_07
-    ≡ record {
-      came = 337;
-      consumed = 51;
-      room = 16098;
-      has_ended = false;
-      cause = None;
-      is_broken = false;
-      is_gone = false;
-      is_open = true;
       begun = 1;
-      output = [];
+      output = (codes "HTTP/1.1 200 \r\nContent-Length: 5\r\nDate: Thu, 01 Jan 1970 00:00:00 GMT\r\n\r\n");
       took = 0;
       unsent = 0;
       idle_since = 0;
       next_job = None;
-      charts = (call.Run ∷ call.Start ∷ call.DispatchOther ∷ []) ∷ [];
+      charts = (call.Run ∷ call.Start ∷ call.CompleteOwn ∷ call.Return ∷ call.Return ∷ []) ∷ [];
     }
 unfolding head_text digits date_at count_off is_name_byte
-trace_026-connection = refl
+trace_022-connection = refl
 
-trace_026-request : request_told trace_026_07
+trace_022-request : request_told trace_022_10
     ≡ record {
-      part = 2;
-      state = state.DispatchPending;
-      running = (Some (job.Service 0));
+      part = 0;
+      state = state.Completing;
+      running = None;
       parked = None;
       given = 0;
-      is_end_told = true;
-      waiting = 0;
-      used = 0;
-      swallowed = 0;
+      is_end_told = false;
+      waiting = 1;
+      used = 1;
+      swallowed = 1;
       has_whole_body = true;
       has_bad_body = false;
       listeners = [];
@@ -164,9 +94,177 @@ trace_026-request : request_told trace_026_07
       ready = record { read_set = false; read_armed = false; all_read_told = false; write_set = false; write_armed = false };
     }
 unfolding is_name_byte
-trace_026-request = refl
+trace_022-request = refl
 
-trace_026-answer : answer_told trace_026_07
+trace_022-answer : answer_told trace_022_10
+    ≡ record {
+      status = 200;
+      fields = [];
+      set_length = (Some 5);
+      content = 0;
+      is_aborted = false;
+    }
+unfolding digits
+trace_022-answer = refl
+
+trace_022-01-settled : settled trace_022_limits trace_022_rules 0 ((0, opened) ∷ [])
+    ≡ trace_022_01
+unfolding settled head_text digits date_at count_off is_name_byte trimmed front_length whole_head host_fits head_of verdict_of target_of framed is_utf8 chars encode
+trace_022-01-settled = refl
+
+trace_022-03-settled : settled trace_022_limits trace_022_rules 0 ((0, came (codes "GET /b HTTP/1.1\r\nHost: localhost:8080\r\nContent-Length: 1\r\nX: l\r\n\r\na")) ∷ trace_022_01)
+    ≡ trace_022_03
+unfolding settled head_text digits date_at count_off is_name_byte trimmed front_length whole_head host_fits head_of verdict_of target_of framed is_utf8 chars encode
+trace_022-03-settled = refl
+
+trace_022-04-next : next_job (trace_022_03)
+    ≡ (Some (job.Service 0))
+unfolding head_text digits date_at count_off is_name_byte
+trace_022-04-next = refl
+
+trace_022-05-settled : settled trace_022_limits trace_022_rules 0 ((0, called call.Start None) ∷ trace_022_04)
+    ≡ trace_022_05
+unfolding settled head_text digits date_at count_off is_name_byte trimmed front_length whole_head host_fits head_of verdict_of target_of framed is_utf8 chars encode
+trace_022-05-settled = refl
+
+trace_022-06-settled : settled trace_022_limits trace_022_rules 0 ((0, length_set 5) ∷ trace_022_05)
+    ≡ trace_022_06
+unfolding settled head_text digits date_at count_off is_name_byte trimmed front_length whole_head host_fits head_of verdict_of target_of framed is_utf8 chars encode
+trace_022-06-settled = refl
+
+trace_022-07-settled : settled trace_022_limits trace_022_rules 0 ((0, called call.CompleteOwn None) ∷ trace_022_06)
+    ≡ trace_022_07
+unfolding settled head_text digits date_at count_off is_name_byte trimmed front_length whole_head host_fits head_of verdict_of target_of framed is_utf8 chars encode
+trace_022-07-settled = refl
+
+trace_022-08-settled : settled trace_022_limits trace_022_rules 0 ((0, called call.Return None) ∷ (0, back) ∷ trace_022_07)
+    ≡ trace_022_08
+unfolding settled head_text digits date_at count_off is_name_byte trimmed front_length whole_head host_fits head_of verdict_of target_of framed is_utf8 chars encode
+trace_022-08-settled = refl
+
+trace_022-09-tick : tick_move trace_022_limits 19999 trace_022_08
+    ≡ None
+unfolding head_text digits date_at count_off is_name_byte
+trace_022-09-tick = refl
+
+trace_022-10-tick : tick_move trace_022_limits 20000 trace_022_08
+    ≡ Some (broken ∷ [])
+unfolding head_text digits date_at count_off is_name_byte
+trace_022-10-tick = refl
+
+trace_022-10-settled : settled trace_022_limits trace_022_rules 20000 ((20000, broken) ∷ trace_022_08)
+    ≡ trace_022_10
+unfolding settled head_text digits date_at count_off is_name_byte trimmed front_length whole_head host_fits head_of verdict_of target_of framed is_utf8 chars encode
+trace_022-10-settled = refl
+
+trace_022-11-tick : tick_move trace_022_limits 20000 trace_022_10
+    ≡ None
+unfolding head_text digits date_at count_off is_name_byte
+trace_022-11-tick = refl
+
+abbrev trace_023_limits : Limits
+trace_023_limits = record { max_connections = 256; max_head = 8192; max_fields = 100; max_keep_alive = pos 100; connection_timeout = 20000; async_timeout = 30000; max_swallow = 100; max_trailer = 12; parts = 3 }
+
+abbrev trace_023_rules : List Rule
+trace_023_rules = record { pattern = (codes "/a"); part = 1; can_async = true } ∷ record { pattern = (codes "/"); part = 0; can_async = true } ∷ record { pattern = (codes "/x/*"); part = 2; can_async = false } ∷ []
+
+abbrev trace_023_01 : Trace
+trace_023_01 = (0, opened) ∷ []
+
+abbrev trace_023_02 : Trace
+trace_023_02 = (0, sent 0) ∷ trace_023_01
+
+abbrev trace_023_03 : Trace
+trace_023_03 = (0, sent 0) ∷ trace_023_02
+
+abbrev trace_023_04 : Trace
+trace_023_04 = (0, began (record { place = 0; size = 27; head = record { method = (codes "GET"); target = (codes "/"); minor = 1; fields = record { name = (codes "Host"); value = (codes "a") } ∷ [] }; framing = framing.None; max_trailer = 12; async_timeout = 30000; part = 0; can_async = true; keep = true; go_on = false })) ∷ (0, came (codes "GET / HTTP/1.1\r\nHost: a\r\n\r\nGET / HTTP/1.1\r\nHost: a\r\n\r\nGET / HTTP/1.1\r\nHost: a\r\n\r\n")) ∷ trace_023_03
+
+abbrev trace_023_05 : Trace
+trace_023_05 = (0, sent 0) ∷ trace_023_04
+
+abbrev trace_023_06 : Trace
+trace_023_06 = (0, called call.Run None) ∷ (0, started (job.Service 0)) ∷ trace_023_05
+
+abbrev trace_023_08 : Trace
+trace_023_08 = (0, came (codes "GET / HTTP/1.1\r\nHost: a\r\n\r\nGET / HTTP/1.1\r\nHost: a\r\n\r\nGET / HTTP/1.1\r\nHost: a\r\n\r\n")) ∷ trace_023_06
+
+abbrev trace_023_10 : Trace
+trace_023_10 = (0, began (record { place = 27; size = 27; head = record { method = (codes "GET"); target = (codes "/"); minor = 1; fields = record { name = (codes "Host"); value = (codes "a") } ∷ [] }; framing = framing.None; max_trailer = 12; async_timeout = 30000; part = 0; can_async = true; keep = true; go_on = false })) ∷ (0, over) ∷ (0, called call.Return None) ∷ (0, back) ∷ trace_023_08
+
+abbrev trace_023_11 : Trace
+trace_023_11 = (0, broken) ∷ (0, caused cause.InFault) ∷ trace_023_10
+
+abbrev trace_023_12 : Trace
+trace_023_12 = (0, called call.Run None) ∷ (0, started (job.Service 0)) ∷ trace_023_11
+
+abbrev trace_023_13 : Trace
+trace_023_13 = (0, called call.Start None) ∷ trace_023_12
+
+abbrev trace_023_14 : Trace
+trace_023_14 = (0, listened 171) ∷ trace_023_13
+
+abbrev trace_023_16 : Trace
+trace_023_16 = (0, read_listener_set) ∷ trace_023_14
+
+abbrev trace_023_17 : Trace
+trace_023_17 = (0, called call.Return None) ∷ (0, back) ∷ trace_023_16
+
+abbrev trace_023_18 : Trace
+trace_023_18 = (0, called call.Run None) ∷ (0, started job.AllRead) ∷ trace_023_17
+
+abbrev trace_023_19 : Trace
+trace_023_19 = (0, called call.Return None) ∷ (0, back) ∷ trace_023_18
+
+abbrev trace_023_26 : Trace
+trace_023_26 = (30000, called call.Timeout None) ∷ trace_023_19
+
+abbrev trace_023_30 : Trace
+trace_023_30 = (30000, started (job.OnTimeout 0 171)) ∷ trace_023_26
+
+trace_023-connection : connection_told trace_023_30
+    ≡ record {
+      came = 162;
+      consumed = 54;
+      room = 16276;
+      has_ended = false;
+      cause = (Some cause.InFault);
+      is_broken = true;
+      is_gone = false;
+      is_open = true;
+      begun = 2;
+      output = (codes "HTTP/1.1 200 \r\nContent-Length: 0\r\nDate: Thu, 01 Jan 1970 00:00:00 GMT\r\n\r\n");
+      took = 0;
+      unsent = 0;
+      idle_since = 0;
+      next_job = None;
+      charts = (call.Run ∷ call.Return ∷ []) ∷ (call.Run ∷ call.Start ∷ call.Return ∷ call.Run ∷ call.Return ∷ call.Timeout ∷ []) ∷ [];
+    }
+unfolding head_text digits date_at count_off is_name_byte
+trace_023-connection = refl
+
+trace_023-request : request_told trace_023_30
+    ≡ record {
+      part = 0;
+      state = state.TimingOut;
+      running = (Some (job.OnTimeout 0 171));
+      parked = None;
+      given = 0;
+      is_end_told = false;
+      waiting = 0;
+      used = 0;
+      swallowed = 0;
+      has_whole_body = true;
+      has_bad_body = false;
+      listeners = 171 ∷ [];
+      owed = [];
+      deadline = (Some 30000);
+      ready = record { read_set = true; read_armed = true; all_read_told = true; write_set = false; write_armed = false };
+    }
+unfolding is_name_byte
+trace_023-request = refl
+
+trace_023-answer : answer_told trace_023_30
     ≡ record {
       status = 200;
       fields = [];
@@ -175,197 +273,118 @@ trace_026-answer : answer_told trace_026_07
       is_aborted = false;
     }
 unfolding digits
-trace_026-answer = refl
+trace_023-answer = refl
 
-trace_026-open : open_told trace_026_07
+trace_023-open : open_told trace_023_30
     ≡ record {
       is_committed = false;
       takes_one = true;
       has_to_cut = true;
     }
 unfolding head_text digits date_at count_off is_name_byte
-trace_026-open = refl
+trace_023-open = refl
 
-trace_026-01-settled : settled trace_026_limits trace_026_rules 0 ((0, opened) ∷ [])
-    ≡ trace_026_01
+trace_023-01-settled : settled trace_023_limits trace_023_rules 0 ((0, opened) ∷ [])
+    ≡ trace_023_01
 unfolding settled head_text digits date_at count_off is_name_byte trimmed front_length whole_head host_fits head_of verdict_of target_of framed is_utf8 chars encode
-trace_026-01-settled = refl
+trace_023-01-settled = refl
 
-trace_026-02-settled : settled trace_026_limits trace_026_rules 0 ((0, came (codes "GET /a%20b;p=1/c HTTP/1.0\r\nExpect: 100-Continue\r\n\r\n\n\r\nHEAD /b HTTP/1.0\r\nHost: [::1]:80\r\nContent-Length: 3\r\n\r\nczdPUT /q.do HTTP/1.1\r\nHost: a\r\nContent-Length: 1\r\n\r\nc")) ∷ trace_026_01)
-    ≡ trace_026_02
+trace_023-02-settled : settled trace_023_limits trace_023_rules 0 ((0, sent 0) ∷ trace_023_01)
+    ≡ trace_023_02
 unfolding settled head_text digits date_at count_off is_name_byte trimmed front_length whole_head host_fits head_of verdict_of target_of framed is_utf8 chars encode
-trace_026-02-settled = refl
+trace_023-02-settled = refl
 
-trace_026-03-settled : settled trace_026_limits trace_026_rules 0 ((0, came (71 ∷ 69 ∷ 84 ∷ 32 ∷ 47 ∷ 32 ∷ 72 ∷ 84 ∷ 84 ∷ 80 ∷ 47 ∷ 49 ∷ 46 ∷ 49 ∷ 13 ∷ 10 ∷ 72 ∷ 111 ∷ 115 ∷ 116 ∷ 58 ∷ 32 ∷ 108 ∷ 111 ∷ 99 ∷ 97 ∷ 108 ∷ 104 ∷ 111 ∷ 115 ∷ 116 ∷ 58 ∷ 56 ∷ 48 ∷ 56 ∷ 48 ∷ 13 ∷ 10 ∷ 13 ∷ 10 ∷ 71 ∷ 69 ∷ 84 ∷ 32 ∷ 47 ∷ 32 ∷ 72 ∷ 84 ∷ 84 ∷ 80 ∷ 47 ∷ 49 ∷ 46 ∷ 49 ∷ 13 ∷ 10 ∷ 72 ∷ 111 ∷ 115 ∷ 116 ∷ 58 ∷ 32 ∷ 13 ∷ 10 ∷ 84 ∷ 114 ∷ 97 ∷ 110 ∷ 115 ∷ 102 ∷ 101 ∷ 114 ∷ 45 ∷ 69 ∷ 110 ∷ 99 ∷ 111 ∷ 100 ∷ 105 ∷ 110 ∷ 103 ∷ 58 ∷ 32 ∷ 67 ∷ 104 ∷ 117 ∷ 110 ∷ 107 ∷ 101 ∷ 100 ∷ 13 ∷ 10 ∷ 13 ∷ 10 ∷ 48 ∷ 49 ∷ 59 ∷ 120 ∷ 61 ∷ 49 ∷ 13 ∷ 10 ∷ 107 ∷ 13 ∷ 10 ∷ 97 ∷ 13 ∷ 10 ∷ 108 ∷ 107 ∷ 108 ∷ 107 ∷ 108 ∷ 107 ∷ 112 ∷ 107 ∷ 108 ∷ 112 ∷ 13 ∷ 10 ∷ 48 ∷ 48 ∷ 48 ∷ 51 ∷ 9 ∷ 32 ∷ 59 ∷ 32 ∷ 122 ∷ 61 ∷ 34 ∷ 113 ∷ 34 ∷ 13 ∷ 10 ∷ 112 ∷ 112 ∷ 109 ∷ 13 ∷ 10 ∷ 48 ∷ 59 ∷ 108 ∷ 97 ∷ 115 ∷ 116 ∷ 13 ∷ 10 ∷ 88 ∷ 45 ∷ 83 ∷ 117 ∷ 109 ∷ 58 ∷ 9 ∷ 32 ∷ 55 ∷ 32 ∷ 13 ∷ 10 ∷ 81 ∷ 58 ∷ 128 ∷ 255 ∷ 13 ∷ 10 ∷ 84 ∷ 58 ∷ 32 ∷ 119 ∷ 13 ∷ 10 ∷ 13 ∷ 10 ∷ [])) ∷ trace_026_02)
-    ≡ trace_026_03
+trace_023-03-settled : settled trace_023_limits trace_023_rules 0 ((0, sent 0) ∷ trace_023_02)
+    ≡ trace_023_03
 unfolding settled head_text digits date_at count_off is_name_byte trimmed front_length whole_head host_fits head_of verdict_of target_of framed is_utf8 chars encode
-trace_026-03-settled = refl
+trace_023-03-settled = refl
 
-trace_026-04-next : next_job (trace_026_03)
+trace_023-04-settled : settled trace_023_limits trace_023_rules 0 ((0, came (codes "GET / HTTP/1.1\r\nHost: a\r\n\r\nGET / HTTP/1.1\r\nHost: a\r\n\r\nGET / HTTP/1.1\r\nHost: a\r\n\r\n")) ∷ trace_023_03)
+    ≡ trace_023_04
+unfolding settled head_text digits date_at count_off is_name_byte trimmed front_length whole_head host_fits head_of verdict_of target_of framed is_utf8 chars encode
+trace_023-04-settled = refl
+
+trace_023-05-settled : settled trace_023_limits trace_023_rules 0 ((0, sent 0) ∷ trace_023_04)
+    ≡ trace_023_05
+unfolding settled head_text digits date_at count_off is_name_byte trimmed front_length whole_head host_fits head_of verdict_of target_of framed is_utf8 chars encode
+trace_023-05-settled = refl
+
+trace_023-06-next : next_job (trace_023_05)
     ≡ (Some (job.Service 0))
 unfolding head_text digits date_at count_off is_name_byte
-trace_026-04-next = refl
+trace_023-06-next = refl
 
-trace_026-05-settled : settled trace_026_limits trace_026_rules 0 ((0, called call.Start None) ∷ trace_026_04)
-    ≡ trace_026_05
+trace_023-08-settled : settled trace_023_limits trace_023_rules 0 ((0, came (codes "GET / HTTP/1.1\r\nHost: a\r\n\r\nGET / HTTP/1.1\r\nHost: a\r\n\r\nGET / HTTP/1.1\r\nHost: a\r\n\r\n")) ∷ trace_023_06)
+    ≡ trace_023_08
 unfolding settled head_text digits date_at count_off is_name_byte trimmed front_length whole_head host_fits head_of verdict_of target_of framed is_utf8 chars encode
-trace_026-05-settled = refl
+trace_023-08-settled = refl
 
-trace_026-07-settled : settled trace_026_limits trace_026_rules 0 ((0, end_given) ∷ trace_026_06)
-    ≡ trace_026_07
-unfolding settled head_text digits date_at count_off is_name_byte trimmed front_length whole_head host_fits head_of verdict_of target_of framed is_utf8 chars encode
-trace_026-07-settled = refl
-
-abbrev trace_027_limits : Limits
-trace_027_limits = record { max_connections = 256; max_head = 8192; max_fields = 100; max_keep_alive = pos 100; connection_timeout = 20000; async_timeout = 30000; max_swallow = 2097152; max_trailer = 8192; parts = 3 }
-
-abbrev trace_027_rules : List Rule
-trace_027_rules = record { pattern = (codes "/x/*"); part = 2; can_async = false } ∷ record { pattern = (codes "/a/*"); part = 2; can_async = true } ∷ record { pattern = (codes "/"); part = 0; can_async = true } ∷ []
-
-abbrev trace_027_01 : Trace
-trace_027_01 = (0, opened) ∷ []
-
-abbrev trace_027_02 : Trace
-trace_027_02 = (0, began (record { place = 0; size = 49; head = record { method = (codes "POST"); target = (codes "/b"); minor = 1; fields = record { name = (codes "Host"); value = (codes "a") } ∷ record { name = (codes "Content-Length"); value = (codes "05") } ∷ [] }; framing = (framing.Length 5); max_trailer = 8192; async_timeout = 30000; part = 0; can_async = true; keep = true; go_on = false })) ∷ (0, came (codes "POST /b HTTP/1.1\r\nHost: a\r\nContent-Length: 05\r\n\r\n")) ∷ trace_027_01
-
-abbrev trace_027_03 : Trace
-trace_027_03 = (0, called call.Run None) ∷ (0, started (job.Service 0)) ∷ trace_027_02
-
-abbrev trace_027_04 : Trace
-trace_027_04 = (0, called call.Start None) ∷ trace_027_03
-
-abbrev trace_027_05 : Trace
-trace_027_05 = (0, parked input_side) ∷ trace_027_04
-
-abbrev trace_027_06 : Trace
-trace_027_06 = (0, put (codes "\r\r")) ∷ trace_027_05
-
-abbrev trace_027_07 : Trace
-trace_027_07 = (0, sent 0) ∷ trace_027_06
-
-abbrev trace_027_08 : Trace
-trace_027_08 = (20000, called call.Fault None) ∷ (20000, broken) ∷ (20000, caused cause.AwaitTimeout) ∷ trace_027_07
-
-abbrev trace_027_11 : Trace
-trace_027_11 = (20001, started job.Resume) ∷ trace_027_08
-
-abbrev trace_027_19 : Trace
-trace_027_19 = (20003, over) ∷ (20003, called call.Return None) ∷ (20003, error_answer 500) ∷ (20003, called call.Return None) ∷ (20003, called call.Return None) ∷ (20003, back) ∷ trace_027_11
-
-trace_027-connection : connection_told trace_027_19
-    ≡ record {
-      came = 49;
-      consumed = 49;
-      room = 16384;
-      has_ended = false;
-      cause = (Some cause.AwaitTimeout);
-      is_broken = true;
-      is_gone = true;
-      is_open = false;
-      begun = 1;
-      output = [];
-      took = 0;
-      unsent = 0;
-      idle_since = 20003;
-      next_job = None;
-      charts = (call.Run ∷ call.Start ∷ call.Fault ∷ call.Return ∷ call.Return ∷ call.Return ∷ []) ∷ [];
-    }
+trace_023-10-end : end_marks ((0, called call.Return None) ∷ (0, back) ∷ trace_023_08)
+    ≡ (over ∷ [])
 unfolding head_text digits date_at count_off is_name_byte
-trace_027-connection = refl
+trace_023-10-end = refl
 
-trace_027-request : request_told trace_027_19
-    ≡ record {
-      part = 0;
-      state = state.Completing;
-      running = None;
-      parked = None;
-      given = 0;
-      is_end_told = false;
-      waiting = 0;
-      used = 0;
-      swallowed = 0;
-      has_whole_body = false;
-      has_bad_body = false;
-      listeners = [];
-      owed = [];
-      deadline = None;
-      ready = record { read_set = false; read_armed = false; all_read_told = false; write_set = false; write_armed = false };
-    }
-unfolding is_name_byte
-trace_027-request = refl
-
-trace_027-answer : answer_told trace_027_19
-    ≡ record {
-      status = 500;
-      fields = record { name = (codes "Content-Type"); value = (codes "text/plain") } ∷ [];
-      set_length = None;
-      content = 10;
-      is_aborted = false;
-    }
-unfolding digits
-trace_027-answer = refl
-
-trace_027-01-settled : settled trace_027_limits trace_027_rules 0 ((0, opened) ∷ [])
-    ≡ trace_027_01
+trace_023-10-settled : settled trace_023_limits trace_023_rules 0 ((0, over) ∷ (0, called call.Return None) ∷ (0, back) ∷ trace_023_08)
+    ≡ trace_023_10
 unfolding settled head_text digits date_at count_off is_name_byte trimmed front_length whole_head host_fits head_of verdict_of target_of framed is_utf8 chars encode
-trace_027-01-settled = refl
+trace_023-10-settled = refl
 
-trace_027-03-next : next_job (trace_027_02)
+trace_023-11-settled : settled trace_023_limits trace_023_rules 0 ((0, broken) ∷ (0, caused cause.InFault) ∷ trace_023_10)
+    ≡ trace_023_11
+unfolding settled head_text digits date_at count_off is_name_byte trimmed front_length whole_head host_fits head_of verdict_of target_of framed is_utf8 chars encode
+trace_023-11-settled = refl
+
+trace_023-12-next : next_job (trace_023_11)
     ≡ (Some (job.Service 0))
 unfolding head_text digits date_at count_off is_name_byte
-trace_027-03-next = refl
+trace_023-12-next = refl
 
-trace_027-04-settled : settled trace_027_limits trace_027_rules 0 ((0, called call.Start None) ∷ trace_027_03)
-    ≡ trace_027_04
+trace_023-13-settled : settled trace_023_limits trace_023_rules 0 ((0, called call.Start None) ∷ trace_023_12)
+    ≡ trace_023_13
 unfolding settled head_text digits date_at count_off is_name_byte trimmed front_length whole_head host_fits head_of verdict_of target_of framed is_utf8 chars encode
-trace_027-04-settled = refl
+trace_023-13-settled = refl
 
-trace_027-05-settled : settled trace_027_limits trace_027_rules 0 ((0, parked input_side) ∷ trace_027_04)
-    ≡ trace_027_05
+trace_023-14-settled : settled trace_023_limits trace_023_rules 0 ((0, listened 171) ∷ trace_023_13)
+    ≡ trace_023_14
 unfolding settled head_text digits date_at count_off is_name_byte trimmed front_length whole_head host_fits head_of verdict_of target_of framed is_utf8 chars encode
-trace_027-05-settled = refl
+trace_023-14-settled = refl
 
-trace_027-07-settled : settled trace_027_limits trace_027_rules 0 ((0, sent 0) ∷ trace_027_06)
-    ≡ trace_027_07
+trace_023-16-settled : settled trace_023_limits trace_023_rules 0 ((0, read_listener_set) ∷ trace_023_14)
+    ≡ trace_023_16
 unfolding settled head_text digits date_at count_off is_name_byte trimmed front_length whole_head host_fits head_of verdict_of target_of framed is_utf8 chars encode
-trace_027-07-settled = refl
+trace_023-16-settled = refl
 
-trace_027-08-tick : tick_move trace_027_limits 20000 trace_027_07
-    ≡ Some (caused cause.AwaitTimeout ∷ broken ∷ called call.Fault None ∷ [])
+trace_023-17-settled : settled trace_023_limits trace_023_rules 0 ((0, called call.Return None) ∷ (0, back) ∷ trace_023_16)
+    ≡ trace_023_17
+unfolding settled head_text digits date_at count_off is_name_byte trimmed front_length whole_head host_fits head_of verdict_of target_of framed is_utf8 chars encode
+trace_023-17-settled = refl
+
+trace_023-18-next : next_job (trace_023_17)
+    ≡ (Some job.AllRead)
 unfolding head_text digits date_at count_off is_name_byte
-trace_027-08-tick = refl
+trace_023-18-next = refl
 
-trace_027-08-settled : settled trace_027_limits trace_027_rules 20000 ((20000, called call.Fault None) ∷ (20000, broken) ∷ (20000, caused cause.AwaitTimeout) ∷ trace_027_07)
-    ≡ trace_027_08
+trace_023-19-settled : settled trace_023_limits trace_023_rules 0 ((0, called call.Return None) ∷ (0, back) ∷ trace_023_18)
+    ≡ trace_023_19
 unfolding settled head_text digits date_at count_off is_name_byte trimmed front_length whole_head host_fits head_of verdict_of target_of framed is_utf8 chars encode
-trace_027-08-settled = refl
+trace_023-19-settled = refl
 
-trace_027-09-tick : tick_move trace_027_limits 20001 trace_027_08
+trace_023-20-tick : tick_move trace_023_limits 29999 trace_023_19
     ≡ None
 unfolding head_text digits date_at count_off is_name_byte
-trace_027-09-tick = refl
+trace_023-20-tick = refl
 
-trace_027-11-next : next_job (trace_027_08)
-    ≡ (Some job.Resume)
+trace_023-26-tick : tick_move trace_023_limits 30000 trace_023_19
+    ≡ Some (called call.Timeout None ∷ [])
 unfolding head_text digits date_at count_off is_name_byte
-trace_027-11-next = refl
+trace_023-26-tick = refl
 
-trace_027-13-tick : tick_move trace_027_limits 20002 trace_027_11
-    ≡ None
-unfolding head_text digits date_at count_off is_name_byte
-trace_027-13-tick = refl
-
-trace_027-14-tick : tick_move trace_027_limits 20003 trace_027_11
-    ≡ None
-unfolding head_text digits date_at count_off is_name_byte
-trace_027-14-tick = refl
-
-trace_027-19-settled : settled trace_027_limits trace_027_rules 20003 ((20003, called call.Return None) ∷ (20003, back) ∷ trace_027_11)
-    ≡ trace_027_19
+trace_023-26-settled : settled trace_023_limits trace_023_rules 30000 ((30000, called call.Timeout None) ∷ trace_023_19)
+    ≡ trace_023_26
 unfolding settled head_text digits date_at count_off is_name_byte trimmed front_length whole_head host_fits head_of verdict_of target_of framed is_utf8 chars encode
-trace_027-19-settled = refl
+trace_023-26-settled = refl
 
-trace_027-27-tick : tick_move trace_027_limits 20003 trace_027_19
-    ≡ None
+trace_023-30-next : next_job (trace_023_26)
+    ≡ (Some (job.OnTimeout 0 171))
 unfolding head_text digits date_at count_off is_name_byte
-trace_027-27-tick = refl
+trace_023-30-next = refl

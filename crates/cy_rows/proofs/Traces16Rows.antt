@@ -6,9 +6,11 @@ use Rattle.std.specs.Str.{is_utf8, chars}
 use lib.Utf8.{encode}
 use Rattle.cy_event.specs.declared.framing.Framing.TheVariants as framing
 use Rattle.cy_event.specs.declared.limits.Limits.{Limits}
+use Rattle.cy_event.specs.declared.steps.Act.TheVariants as act
 use Rattle.cy_event.specs.declared.steps.Call.TheVariants as call
 use Rattle.cy_event.specs.declared.steps.CloseCause.TheVariants as cause
 use Rattle.cy_event.specs.declared.steps.Job.TheVariants as job
+use Rattle.cy_event.specs.declared.steps.Reply.TheVariants as reply
 use Rattle.cy_event.specs.declared.steps.State.TheVariants as state
 use Rattle.cy_event.specs.Answers.{head_text}
 use Rattle.cy_event.specs.Dates.{date_at, count_off}
@@ -16,233 +18,88 @@ use Rattle.cy_event.specs.Framings.{framed}
 use Rattle.cy_event.specs.Heads.{is_name_byte, trimmed, front_length, whole_head, host_fits, head_of}
 use Rattle.cy_event.specs.Targets.{target_of}
 use Rattle.cy_map.specs.declared.rule.Rule.{Rule}
+use Rattle.cy_model.specs.Entries.{on_act, reply_to}
 use Rattle.cy_model.specs.Jobs.{next_job}
-use Rattle.cy_model.specs.Marks.{Trace, opened, came, sent, began, called, started, back, put, flushed, nothing_to_flush, aborted, over, caused}
+use Rattle.cy_model.specs.Marks.{Trace, input_side, opened, came, sent, began, called, started, parked, back, read_listener_set, length_set, error_answer, over, caused, broken}
+use Rattle.cy_model.specs.Replies.{plain}
 use Rattle.cy_model.specs.Settling.{settled}
+use Rattle.cy_model.specs.Ticks.{tick_move}
 use Rattle.cy_model.specs.Verdicts.{verdict_of}
 use Rattle.cy_rows.specs.Told.{answer_told, connection_told, open_told, request_told}
 
-abbrev trace_066_limits : Limits
-trace_066_limits = record { max_connections = 2; max_head = 257; max_fields = 100; max_keep_alive = pos 100; connection_timeout = 20000; async_timeout = 30000; max_swallow = 10; max_trailer = 8192; parts = 4 }
+abbrev trace_058_limits : Limits
+trace_058_limits = record { max_connections = 256; max_head = 8192; max_fields = 100; max_keep_alive = pos 100; connection_timeout = 20000; async_timeout = 30000; max_swallow = 2097152; max_trailer = 6; parts = 3 }
 
-abbrev trace_066_rules : List Rule
-trace_066_rules = record { pattern = (codes "/a/*"); part = 2; can_async = true } ∷ record { pattern = (codes "/"); part = 0; can_async = true } ∷ record { pattern = (codes "*.do"); part = 3; can_async = true } ∷ record { pattern = (codes "/x/*"); part = 2; can_async = true } ∷ []
+abbrev trace_058_rules : List Rule
+trace_058_rules = record { pattern = (codes "/a/*"); part = 2; can_async = true } ∷ []
 
-abbrev trace_066_01 : Trace
-trace_066_01 = (0, opened) ∷ []
+abbrev trace_058_01 : Trace
+trace_058_01 = (0, opened) ∷ []
 
-abbrev trace_066_02 : Trace
-trace_066_02 = (0, began (record { place = 0; size = 56; head = record { method = (codes "POST"); target = (codes "/"); minor = 1; fields = record { name = (codes "Host"); value = (codes "a") } ∷ record { name = (codes "Transfer-Encoding"); value = (codes "Chunked") } ∷ [] }; framing = framing.Chunked; max_trailer = 8192; async_timeout = 30000; part = 0; can_async = true; keep = true; go_on = false })) ∷ (0, came (codes "POST / HTTP/1.1\r\nHost: a\r\nTransfer-Encoding: Chunked\r\n\r\n")) ∷ trace_066_01
+abbrev trace_058_02 : Trace
+trace_058_02 = (0, began (record { place = 30; size = 83; head = record { method = (codes "PUT"); target = (codes "/a/./b/../c?q=1"); minor = 1; fields = record { name = (codes "Host"); value = (codes "[::1]:80") } ∷ record { name = (codes "transfer-encoding"); value = (codes "chunked") } ∷ record { name = (codes "X"); value = (codes "l") } ∷ [] }; framing = framing.Chunked; max_trailer = 6; async_timeout = 30000; part = 2; can_async = true; keep = true; go_on = false })) ∷ (0, over) ∷ (0, error_answer 404) ∷ (0, began (record { place = 0; size = 30; head = record { method = (codes "POST"); target = (codes "/b"); minor = 1; fields = record { name = (codes "Host"); value = [] } ∷ record { name = (codes "X"); value = (codes "l") } ∷ [] }; framing = framing.None; max_trailer = 6; async_timeout = 30000; part = 0; can_async = false; keep = true; go_on = false })) ∷ (0, came (codes "POST /b HTTP/1.1\nHost: \nX: l\n\n\r\nPUT /a/./b/../c?q=1 HTTP/1.1\r\nHost: [::1]:80\r\ntransfer-encoding:chunked\r\nX: l\r\n\r\n")) ∷ trace_058_01
 
-abbrev trace_066_03 : Trace
-trace_066_03 = (0, called call.Run None) ∷ (0, started (job.Service 0)) ∷ trace_066_02
+abbrev trace_058_03 : Trace
+trace_058_03 = (0, called call.Run None) ∷ (0, started (job.Service 2)) ∷ trace_058_02
 
-abbrev trace_066_05 : Trace
-trace_066_05 = (0, called call.Start None) ∷ trace_066_03
+abbrev trace_058_05 : Trace
+trace_058_05 = (0, parked input_side) ∷ trace_058_03
 
-abbrev trace_066_07 : Trace
-trace_066_07 = (0, flushed) ∷ trace_066_05
+abbrev trace_058_06 : Trace
+trace_058_06 = (0, sent 110) ∷ trace_058_05
 
-abbrev trace_066_08 : Trace
-trace_066_08 = (0, called call.Return None) ∷ (0, back) ∷ trace_066_07
+abbrev trace_058_07 : Trace
+trace_058_07 = (0, sent 0) ∷ trace_058_06
 
-abbrev trace_066_09 : Trace
-trace_066_09 = (0, came (codes "0\r\n\r\n")) ∷ trace_066_08
+abbrev trace_058_08 : Trace
+trace_058_08 = (20000, broken) ∷ (20000, caused cause.AwaitTimeout) ∷ trace_058_07
 
-abbrev trace_066_10 : Trace
-trace_066_10 = (0, came []) ∷ trace_066_09
+abbrev trace_058_13 : Trace
+trace_058_13 = (20001, started job.Resume) ∷ trace_058_08
 
-abbrev trace_066_14 : Trace
-trace_066_14 = (0, came (codes "GET /a%20b;p=1/c HTTP/1.1\r\nHost: \r\nConnection: upgrade\r\n\r\n")) ∷ trace_066_10
+abbrev trace_058_15 : Trace
+trace_058_15 = (20001, length_set 1) ∷ trace_058_13
 
-abbrev trace_066_16 : Trace
-trace_066_16 = (0, nothing_to_flush) ∷ trace_066_14
+abbrev trace_058_16 : Trace
+trace_058_16 = (20001, called call.Start None) ∷ trace_058_15
 
-abbrev trace_066_17 : Trace
-trace_066_17 = (0, called call.CompleteOther None) ∷ trace_066_16
+abbrev trace_058_17 : Trace
+trace_058_17 = (20001, read_listener_set) ∷ trace_058_16
 
-abbrev trace_066_19 : Trace
-trace_066_19 = (0, began (record { place = 61; size = 58; head = record { method = (codes "GET"); target = (codes "/a%20b;p=1/c"); minor = 1; fields = record { name = (codes "Host"); value = [] } ∷ record { name = (codes "Connection"); value = (codes "upgrade") } ∷ [] }; framing = framing.None; max_trailer = 8192; async_timeout = 30000; part = 0; can_async = true; keep = true; go_on = false })) ∷ (0, over) ∷ (0, called call.Return None) ∷ (0, came (codes "POST /a HTTP/1.1\r\nA: b\r\nA: b\r\nHost: a\r\ntransfer-encoding:Chunked\r\n\r\n0\r\n\r\n")) ∷ trace_066_17
+abbrev trace_058_18 : Trace
+trace_058_18 = (20001, parked input_side) ∷ trace_058_17
 
-abbrev trace_066_20 : Trace
-trace_066_20 = (0, came (codes "GET / HTTP/1.1\r\nHost: a\r\n\r\nGET / HTTP/1.1\r\nHost: a\r\n\r\n")) ∷ trace_066_19
+abbrev trace_058_20 : Trace
+trace_058_20 = (20001, started job.Resume) ∷ trace_058_18
 
-trace_066-connection : connection_told trace_066_20
+abbrev trace_058_21 : Trace
+trace_058_21 = (20001, called call.Return None) ∷ (20001, back) ∷ trace_058_20
+
+trace_058-connection : connection_told trace_058_21
     ≡ record {
-      came = 246;
-      consumed = 119;
-      room = 16257;
+      came = 113;
+      consumed = 113;
+      room = 16384;
       has_ended = false;
-      cause = None;
-      is_broken = false;
+      cause = (Some cause.AwaitTimeout);
+      is_broken = true;
       is_gone = false;
       is_open = true;
       begun = 2;
-      output = (codes "HTTP/1.1 200 \r\nTransfer-Encoding: chunked\r\nDate: Thu, 01 Jan 1970 00:00:00 GMT\r\n\r\n0\r\n\r\n");
-      took = 0;
-      unsent = 87;
-      idle_since = 0;
-      next_job = (Some (job.Service 0));
-      charts = (call.Run ∷ call.Start ∷ call.Return ∷ call.CompleteOther ∷ call.Return ∷ []) ∷ ([]) ∷ [];
-    }
-unfolding head_text digits date_at count_off is_name_byte
-trace_066-connection = refl
-
-trace_066-request : request_told trace_066_20
-    ≡ record {
-      part = 0;
-      state = state.Dispatched;
-      running = None;
-      parked = None;
-      given = 0;
-      is_end_told = false;
-      waiting = 0;
-      used = 0;
-      swallowed = 0;
-      has_whole_body = true;
-      has_bad_body = false;
-      listeners = [];
-      owed = [];
-      deadline = None;
-      ready = record { read_set = false; read_armed = false; all_read_told = false; write_set = false; write_armed = false };
-    }
-unfolding is_name_byte
-trace_066-request = refl
-
-trace_066-answer : answer_told trace_066_20
-    ≡ record {
-      status = 200;
-      fields = [];
-      set_length = None;
-      content = 0;
-      is_aborted = false;
-    }
-unfolding digits
-trace_066-answer = refl
-
-trace_066-open : open_told trace_066_20
-    ≡ record {
-      is_committed = false;
-      takes_one = true;
-      has_to_cut = true;
-    }
-unfolding head_text digits date_at count_off is_name_byte
-trace_066-open = refl
-
-trace_066-01-settled : settled trace_066_limits trace_066_rules 0 ((0, opened) ∷ [])
-    ≡ trace_066_01
-unfolding settled head_text digits date_at count_off is_name_byte trimmed front_length whole_head host_fits head_of verdict_of target_of framed is_utf8 chars encode
-trace_066-01-settled = refl
-
-trace_066-03-next : next_job (trace_066_02)
-    ≡ (Some (job.Service 0))
-unfolding head_text digits date_at count_off is_name_byte
-trace_066-03-next = refl
-
-trace_066-05-settled : settled trace_066_limits trace_066_rules 0 ((0, called call.Start None) ∷ trace_066_03)
-    ≡ trace_066_05
-unfolding settled head_text digits date_at count_off is_name_byte trimmed front_length whole_head host_fits head_of verdict_of target_of framed is_utf8 chars encode
-trace_066-05-settled = refl
-
-trace_066-07-settled : settled trace_066_limits trace_066_rules 0 ((0, flushed) ∷ trace_066_05)
-    ≡ trace_066_07
-unfolding settled head_text digits date_at count_off is_name_byte trimmed front_length whole_head host_fits head_of verdict_of target_of framed is_utf8 chars encode
-trace_066-07-settled = refl
-
-trace_066-08-settled : settled trace_066_limits trace_066_rules 0 ((0, called call.Return None) ∷ (0, back) ∷ trace_066_07)
-    ≡ trace_066_08
-unfolding settled head_text digits date_at count_off is_name_byte trimmed front_length whole_head host_fits head_of verdict_of target_of framed is_utf8 chars encode
-trace_066-08-settled = refl
-
-trace_066-09-settled : settled trace_066_limits trace_066_rules 0 ((0, came (codes "0\r\n\r\n")) ∷ trace_066_08)
-    ≡ trace_066_09
-unfolding settled head_text digits date_at count_off is_name_byte trimmed front_length whole_head host_fits head_of verdict_of target_of framed is_utf8 chars encode
-trace_066-09-settled = refl
-
-trace_066-10-settled : settled trace_066_limits trace_066_rules 0 ((0, came []) ∷ trace_066_09)
-    ≡ trace_066_10
-unfolding settled head_text digits date_at count_off is_name_byte trimmed front_length whole_head host_fits head_of verdict_of target_of framed is_utf8 chars encode
-trace_066-10-settled = refl
-
-trace_066-14-settled : settled trace_066_limits trace_066_rules 0 ((0, came (codes "GET /a%20b;p=1/c HTTP/1.1\r\nHost: \r\nConnection: upgrade\r\n\r\n")) ∷ trace_066_10)
-    ≡ trace_066_14
-unfolding settled head_text digits date_at count_off is_name_byte trimmed front_length whole_head host_fits head_of verdict_of target_of framed is_utf8 chars encode
-trace_066-14-settled = refl
-
-trace_066-19-settled : settled trace_066_limits trace_066_rules 0 ((0, came (codes "POST /a HTTP/1.1\r\nA: b\r\nA: b\r\nHost: a\r\ntransfer-encoding:Chunked\r\n\r\n0\r\n\r\n")) ∷ trace_066_17)
-    ≡ trace_066_19
-unfolding settled head_text digits date_at count_off is_name_byte trimmed front_length whole_head host_fits head_of verdict_of target_of framed is_utf8 chars encode
-trace_066-19-settled = refl
-
-trace_066-20-settled : settled trace_066_limits trace_066_rules 0 ((0, came (codes "GET / HTTP/1.1\r\nHost: a\r\n\r\nGET / HTTP/1.1\r\nHost: a\r\n\r\n")) ∷ trace_066_19)
-    ≡ trace_066_20
-unfolding settled head_text digits date_at count_off is_name_byte trimmed front_length whole_head host_fits head_of verdict_of target_of framed is_utf8 chars encode
-trace_066-20-settled = refl
-
-abbrev trace_068_limits : Limits
-trace_068_limits = record { max_connections = 256; max_head = 8192; max_fields = 100; max_keep_alive = pos 100; connection_timeout = 20000; async_timeout = 30000; max_swallow = 2097152; max_trailer = 8192; parts = 5 }
-
-abbrev trace_068_rules : List Rule
-trace_068_rules = record { pattern = (codes "/"); part = 0; can_async = true } ∷ record { pattern = (codes "/a/*"); part = 2; can_async = true } ∷ record { pattern = (codes "*.do"); part = 3; can_async = false } ∷ record { pattern = (codes "/x/*"); part = 2; can_async = false } ∷ record { pattern = (codes "/*"); part = 4; can_async = true } ∷ []
-
-abbrev trace_068_01 : Trace
-trace_068_01 = (0, opened) ∷ []
-
-abbrev trace_068_02 : Trace
-trace_068_02 = (0, began (record { place = 0; size = 54; head = record { method = (codes "POST"); target = (codes "/"); minor = 1; fields = record { name = (codes "Host"); value = (codes "[::1]:80") } ∷ record { name = (codes "Content-Length"); value = (codes "5") } ∷ [] }; framing = (framing.Length 5); max_trailer = 8192; async_timeout = 30000; part = 4; can_async = true; keep = true; go_on = false })) ∷ (0, came (codes "POST / HTTP/1.1\r\nHost: [::1]:80\r\nContent-Length: 5\r\n\r\n")) ∷ trace_068_01
-
-abbrev trace_068_03 : Trace
-trace_068_03 = (0, called call.Run None) ∷ (0, started (job.Service 4)) ∷ trace_068_02
-
-abbrev trace_068_04 : Trace
-trace_068_04 = (0, called call.Start None) ∷ trace_068_03
-
-abbrev trace_068_05 : Trace
-trace_068_05 = (0, put (codes "aaaaaaaaaaaaa")) ∷ trace_068_04
-
-abbrev trace_068_07 : Trace
-trace_068_07 = (0, called call.DispatchOwn (Some 2)) ∷ trace_068_05
-
-abbrev trace_068_10 : Trace
-trace_068_10 = (0, sent 0) ∷ trace_068_07
-
-abbrev trace_068_11 : Trace
-trace_068_11 = (0, flushed) ∷ trace_068_10
-
-abbrev trace_068_13 : Trace
-trace_068_13 = (0, put (codes "\\\\\\\\\\\\\\\\")) ∷ trace_068_11
-
-abbrev trace_068_14 : Trace
-trace_068_14 = (0, caused cause.FailedAnswer) ∷ (0, over) ∷ (0, called call.Return None) ∷ (0, aborted) ∷ (0, called call.Return None) ∷ (0, aborted) ∷ (0, called call.Fail None) ∷ (0, back) ∷ trace_068_13
-
-abbrev trace_068_16 : Trace
-trace_068_16 = (0, sent 100) ∷ trace_068_14
-
-trace_068-connection : connection_told trace_068_16
-    ≡ record {
-      came = 54;
-      consumed = 54;
-      room = 16384;
-      has_ended = false;
-      cause = (Some cause.FailedAnswer);
-      is_broken = false;
-      is_gone = true;
-      is_open = false;
-      begun = 1;
-      output = (codes "HTTP/1.1 200 \r\nTransfer-Encoding: chunked\r\nDate: Thu, 01 Jan 1970 00:00:00 GMT\r\n\r\nd\r\naaaaaaaaaaaaa\r\n");
-      took = 100;
+      output = (codes "HTTP/1.1 404 \r\nContent-Type: text/plain\r\nContent-Length: 10\r\nDate: Thu, 01 Jan 1970 00:00:00 GMT\r\n\r\nError 404\n");
+      took = 110;
       unsent = 0;
       idle_since = 0;
       next_job = None;
-      charts = (call.Run ∷ call.Start ∷ call.DispatchOwn ∷ call.Fail ∷ call.Return ∷ call.Return ∷ []) ∷ [];
+      charts = ([]) ∷ (call.Run ∷ call.Start ∷ call.Return ∷ []) ∷ [];
     }
 unfolding head_text digits date_at count_off is_name_byte
-trace_068-connection = refl
+trace_058-connection = refl
 
-trace_068-request : request_told trace_068_16
+trace_058-request : request_told trace_058_21
     ≡ record {
       part = 2;
-      state = state.Completing;
+      state = state.Started;
       running = None;
       parked = None;
       given = 0;
@@ -254,69 +111,123 @@ trace_068-request : request_told trace_068_16
       has_bad_body = false;
       listeners = [];
       owed = [];
-      deadline = None;
-      ready = record { read_set = false; read_armed = false; all_read_told = false; write_set = false; write_armed = false };
+      deadline = (Some 50001);
+      ready = record { read_set = true; read_armed = true; all_read_told = false; write_set = false; write_armed = false };
     }
 unfolding is_name_byte
-trace_068-request = refl
+trace_058-request = refl
 
-trace_068-answer : answer_told trace_068_16
+trace_058-answer : answer_told trace_058_21
     ≡ record {
       status = 200;
       fields = [];
-      set_length = None;
-      content = 21;
-      is_aborted = true;
+      set_length = (Some 1);
+      content = 0;
+      is_aborted = false;
     }
 unfolding digits
-trace_068-answer = refl
+trace_058-answer = refl
 
-trace_068-01-settled : settled trace_068_limits trace_068_rules 0 ((0, opened) ∷ [])
-    ≡ trace_068_01
-unfolding settled head_text digits date_at count_off is_name_byte trimmed front_length whole_head host_fits head_of verdict_of target_of framed is_utf8 chars encode
-trace_068-01-settled = refl
-
-trace_068-03-next : next_job (trace_068_02)
-    ≡ (Some (job.Service 4))
+trace_058-open : open_told trace_058_21
+    ≡ record {
+      is_committed = false;
+      takes_one = true;
+      has_to_cut = true;
+    }
 unfolding head_text digits date_at count_off is_name_byte
-trace_068-03-next = refl
+trace_058-open = refl
 
-trace_068-04-settled : settled trace_068_limits trace_068_rules 0 ((0, called call.Start None) ∷ trace_068_03)
-    ≡ trace_068_04
+trace_058-01-settled : settled trace_058_limits trace_058_rules 0 ((0, opened) ∷ [])
+    ≡ trace_058_01
 unfolding settled head_text digits date_at count_off is_name_byte trimmed front_length whole_head host_fits head_of verdict_of target_of framed is_utf8 chars encode
-trace_068-04-settled = refl
+trace_058-01-settled = refl
 
-trace_068-05-settled : settled trace_068_limits trace_068_rules 0 ((0, put (codes "aaaaaaaaaaaaa")) ∷ trace_068_04)
-    ≡ trace_068_05
+trace_058-02-settled : settled trace_058_limits trace_058_rules 0 ((0, came (codes "POST /b HTTP/1.1\nHost: \nX: l\n\n\r\nPUT /a/./b/../c?q=1 HTTP/1.1\r\nHost: [::1]:80\r\ntransfer-encoding:chunked\r\nX: l\r\n\r\n")) ∷ trace_058_01)
+    ≡ trace_058_02
 unfolding settled head_text digits date_at count_off is_name_byte trimmed front_length whole_head host_fits head_of verdict_of target_of framed is_utf8 chars encode
-trace_068-05-settled = refl
+trace_058-02-settled = refl
 
-trace_068-07-settled : settled trace_068_limits trace_068_rules 0 ((0, called call.DispatchOwn (Some 2)) ∷ trace_068_05)
-    ≡ trace_068_07
-unfolding settled head_text digits date_at count_off is_name_byte trimmed front_length whole_head host_fits head_of verdict_of target_of framed is_utf8 chars encode
-trace_068-07-settled = refl
+trace_058-03-next : next_job (trace_058_02)
+    ≡ (Some (job.Service 2))
+unfolding head_text digits date_at count_off is_name_byte
+trace_058-03-next = refl
 
-trace_068-10-settled : settled trace_068_limits trace_068_rules 0 ((0, sent 0) ∷ trace_068_07)
-    ≡ trace_068_10
+trace_058-05-settled : settled trace_058_limits trace_058_rules 0 ((0, parked input_side) ∷ trace_058_03)
+    ≡ trace_058_05
 unfolding settled head_text digits date_at count_off is_name_byte trimmed front_length whole_head host_fits head_of verdict_of target_of framed is_utf8 chars encode
-trace_068-10-settled = refl
+trace_058-05-settled = refl
 
-trace_068-11-settled : settled trace_068_limits trace_068_rules 0 ((0, flushed) ∷ trace_068_10)
-    ≡ trace_068_11
+trace_058-06-settled : settled trace_058_limits trace_058_rules 0 ((0, sent 110) ∷ trace_058_05)
+    ≡ trace_058_06
 unfolding settled head_text digits date_at count_off is_name_byte trimmed front_length whole_head host_fits head_of verdict_of target_of framed is_utf8 chars encode
-trace_068-11-settled = refl
+trace_058-06-settled = refl
 
-trace_068-13-settled : settled trace_068_limits trace_068_rules 0 ((0, put (codes "\\\\\\\\\\\\\\\\")) ∷ trace_068_11)
-    ≡ trace_068_13
+trace_058-07-settled : settled trace_058_limits trace_058_rules 0 ((0, sent 0) ∷ trace_058_06)
+    ≡ trace_058_07
 unfolding settled head_text digits date_at count_off is_name_byte trimmed front_length whole_head host_fits head_of verdict_of target_of framed is_utf8 chars encode
-trace_068-13-settled = refl
+trace_058-07-settled = refl
 
-trace_068-14-settled : settled trace_068_limits trace_068_rules 0 ((0, aborted) ∷ (0, called call.Fail None) ∷ (0, back) ∷ trace_068_13)
-    ≡ trace_068_14
-unfolding settled head_text digits date_at count_off is_name_byte trimmed front_length whole_head host_fits head_of verdict_of target_of framed is_utf8 chars encode
-trace_068-14-settled = refl
+trace_058-08-tick : tick_move trace_058_limits 20000 trace_058_07
+    ≡ Some (caused cause.AwaitTimeout ∷ broken ∷ [])
+unfolding head_text digits date_at count_off is_name_byte
+trace_058-08-tick = refl
 
-trace_068-16-settled : settled trace_068_limits trace_068_rules 0 ((0, sent 100) ∷ trace_068_14)
-    ≡ trace_068_16
+trace_058-08-settled : settled trace_058_limits trace_058_rules 20000 ((20000, broken) ∷ (20000, caused cause.AwaitTimeout) ∷ trace_058_07)
+    ≡ trace_058_08
 unfolding settled head_text digits date_at count_off is_name_byte trimmed front_length whole_head host_fits head_of verdict_of target_of framed is_utf8 chars encode
-trace_068-16-settled = refl
+trace_058-08-settled = refl
+
+trace_058-10-tick : tick_move trace_058_limits 20001 trace_058_08
+    ≡ None
+unfolding head_text digits date_at count_off is_name_byte
+trace_058-10-tick = refl
+
+trace_058-11-tick : tick_move trace_058_limits 20001 trace_058_08
+    ≡ None
+unfolding head_text digits date_at count_off is_name_byte
+trace_058-11-tick = refl
+
+trace_058-13-next : next_job (trace_058_08)
+    ≡ (Some job.Resume)
+unfolding head_text digits date_at count_off is_name_byte
+trace_058-13-next = refl
+
+trace_058-15-settled : settled trace_058_limits trace_058_rules 20001 ((20001, length_set 1) ∷ trace_058_13)
+    ≡ trace_058_15
+unfolding settled head_text digits date_at count_off is_name_byte trimmed front_length whole_head host_fits head_of verdict_of target_of framed is_utf8 chars encode
+trace_058-15-settled = refl
+
+trace_058-16-settled : settled trace_058_limits trace_058_rules 20001 ((20001, called call.Start None) ∷ trace_058_15)
+    ≡ trace_058_16
+unfolding settled head_text digits date_at count_off is_name_byte trimmed front_length whole_head host_fits head_of verdict_of target_of framed is_utf8 chars encode
+trace_058-16-settled = refl
+
+trace_058-17-settled : settled trace_058_limits trace_058_rules 20001 ((20001, read_listener_set) ∷ trace_058_16)
+    ≡ trace_058_17
+unfolding settled head_text digits date_at count_off is_name_byte trimmed front_length whole_head host_fits head_of verdict_of target_of framed is_utf8 chars encode
+trace_058-17-settled = refl
+
+trace_058-18-settled : settled trace_058_limits trace_058_rules 20001 ((20001, parked input_side) ∷ trace_058_17)
+    ≡ trace_058_18
+unfolding settled head_text digits date_at count_off is_name_byte trimmed front_length whole_head host_fits head_of verdict_of target_of framed is_utf8 chars encode
+trace_058-18-settled = refl
+
+trace_058-20-next : next_job (trace_058_18)
+    ≡ (Some job.Resume)
+unfolding head_text digits date_at count_off is_name_byte
+trace_058-20-next = refl
+
+trace_058-21-settled : settled trace_058_limits trace_058_rules 20001 ((20001, called call.Return None) ∷ (20001, back) ∷ trace_058_20)
+    ≡ trace_058_21
+unfolding settled head_text digits date_at count_off is_name_byte trimmed front_length whole_head host_fits head_of verdict_of target_of framed is_utf8 chars encode
+trace_058-21-settled = refl
+
+trace_058-23-reply : reply_to trace_058_limits trace_058_rules 0 trace_058_21 (on_act (act.Read 1) [])
+    ≡ plain reply.NotActive
+unfolding reply_to head_text digits date_at count_off is_name_byte
+trace_058-23-reply = refl
+
+trace_058-25-tick : tick_move trace_058_limits 20002 trace_058_21
+    ≡ None
+unfolding head_text digits date_at count_off is_name_byte
+trace_058-25-tick = refl

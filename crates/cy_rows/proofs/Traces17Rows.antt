@@ -6,7 +6,11 @@ use Rattle.std.specs.Str.{is_utf8, chars}
 use lib.Utf8.{encode}
 use Rattle.cy_event.specs.declared.framing.Framing.TheVariants as framing
 use Rattle.cy_event.specs.declared.limits.Limits.{Limits}
+use Rattle.cy_event.specs.declared.steps.Act.TheVariants as act
+use Rattle.cy_event.specs.declared.steps.Call.TheVariants as call
 use Rattle.cy_event.specs.declared.steps.CloseCause.TheVariants as cause
+use Rattle.cy_event.specs.declared.steps.Job.TheVariants as job
+use Rattle.cy_event.specs.declared.steps.Reply.TheVariants as reply
 use Rattle.cy_event.specs.declared.steps.State.TheVariants as state
 use Rattle.cy_event.specs.Answers.{head_text}
 use Rattle.cy_event.specs.Dates.{date_at, count_off}
@@ -14,223 +18,340 @@ use Rattle.cy_event.specs.Framings.{framed}
 use Rattle.cy_event.specs.Heads.{is_name_byte, trimmed, front_length, whole_head, host_fits, head_of}
 use Rattle.cy_event.specs.Targets.{target_of}
 use Rattle.cy_map.specs.declared.rule.Rule.{Rule}
-use Rattle.cy_model.specs.Marks.{Trace, opened, came, began, refused, error_answer, over, caused, broken}
+use Rattle.cy_model.specs.Entries.{on_act, reply_to}
+use Rattle.cy_model.specs.Jobs.{next_job}
+use Rattle.cy_model.specs.Marks.{Trace, opened, came, sent, began, called, started, back, listened, timeout_set, read_listener_set, write_listener_set, flushed, aborted, caused, broken}
+use Rattle.cy_model.specs.Replies.{plain}
 use Rattle.cy_model.specs.Settling.{settled}
 use Rattle.cy_model.specs.Ticks.{tick_move}
 use Rattle.cy_model.specs.Verdicts.{verdict_of}
-use Rattle.cy_rows.specs.Told.{answer_told, connection_told, request_told}
+use Rattle.cy_rows.specs.Told.{answer_told, connection_told, open_told, request_told}
 
-abbrev trace_069_limits : Limits
-trace_069_limits = record { max_connections = 3; max_head = 8192; max_fields = 100; max_keep_alive = pos 1; connection_timeout = 20000; async_timeout = 30000; max_swallow = 100; max_trailer = 8192; parts = 4 }
+abbrev trace_062_limits : Limits
+trace_062_limits = record { max_connections = 256; max_head = 8192; max_fields = 100; max_keep_alive = pos 100; connection_timeout = 20000; async_timeout = 30000; max_swallow = 2097152; max_trailer = 8192; parts = 3 }
 
-abbrev trace_069_rules : List Rule
-trace_069_rules = record { pattern = (codes "*.do"); part = 3; can_async = true } ∷ record { pattern = (codes "/a"); part = 1; can_async = true } ∷ []
+abbrev trace_062_rules : List Rule
+trace_062_rules = record { pattern = (codes "/"); part = 0; can_async = true } ∷ record { pattern = (codes "/a"); part = 1; can_async = true } ∷ record { pattern = (codes "/x/*"); part = 2; can_async = false } ∷ []
 
-abbrev trace_069_01 : Trace
-trace_069_01 = (0, opened) ∷ []
+abbrev trace_062_01 : Trace
+trace_062_01 = (0, opened) ∷ []
 
-abbrev trace_069_02 : Trace
-trace_069_02 = (0, caused cause.LastAnswer) ∷ (0, over) ∷ (0, error_answer 404) ∷ (0, began (record { place = 0; size = 54; head = record { method = (codes "POST"); target = (codes "/"); minor = 1; fields = record { name = (codes "Host"); value = (codes "a") } ∷ record { name = (codes "Content-Length"); value = (codes "01") } ∷ record { name = (codes "A"); value = (codes "b") } ∷ [] }; framing = (framing.Length 1); max_trailer = 8192; async_timeout = 30000; part = 0; can_async = false; keep = false; go_on = false })) ∷ (0, came (codes "POST / HTTP/1.1\r\nHost: a\r\nContent-Length: 01\r\nA: b\r\n\r\nb")) ∷ trace_069_01
+abbrev trace_062_02 : Trace
+trace_062_02 = (0, began (record { place = 0; size = 27; head = record { method = (codes "GET"); target = (codes "/"); minor = 1; fields = record { name = (codes "Host"); value = (codes "a") } ∷ [] }; framing = framing.None; max_trailer = 8192; async_timeout = 30000; part = 0; can_async = true; keep = true; go_on = false })) ∷ (0, came (codes "GET / HTTP/1.1\r\nHost: a\r\n\r\n")) ∷ trace_062_01
 
-abbrev trace_069_04 : Trace
-trace_069_04 = (20000, broken) ∷ trace_069_02
+abbrev trace_062_03 : Trace
+trace_062_03 = (0, called call.Run None) ∷ (0, started (job.Service 0)) ∷ trace_062_02
 
-trace_069-connection : connection_told trace_069_04
+abbrev trace_062_04 : Trace
+trace_062_04 = (0, flushed) ∷ trace_062_03
+
+abbrev trace_062_05 : Trace
+trace_062_05 = (0, called call.Start None) ∷ trace_062_04
+
+abbrev trace_062_06 : Trace
+trace_062_06 = (0, came (codes "GET / HTTP/1.1\r\nHost: a\r\n\r\n")) ∷ trace_062_05
+
+abbrev trace_062_07 : Trace
+trace_062_07 = (0, read_listener_set) ∷ trace_062_06
+
+abbrev trace_062_09 : Trace
+trace_062_09 = (0, write_listener_set) ∷ trace_062_07
+
+abbrev trace_062_11 : Trace
+trace_062_11 = (1, listened 32) ∷ trace_062_09
+
+abbrev trace_062_12 : Trace
+trace_062_12 = (1, timeout_set 1) ∷ trace_062_11
+
+abbrev trace_062_13 : Trace
+trace_062_13 = (1, listened 205) ∷ trace_062_12
+
+abbrev trace_062_14 : Trace
+trace_062_14 = (1, timeout_set 0) ∷ trace_062_13
+
+abbrev trace_062_16 : Trace
+trace_062_16 = (1, called call.Return None) ∷ (1, back) ∷ trace_062_14
+
+abbrev trace_062_17 : Trace
+trace_062_17 = (1, came (codes "\n\r\nPOST / HTTP/1.1\r\nHost: [::1]:80\r\nContent-Length")) ∷ trace_062_16
+
+abbrev trace_062_18 : Trace
+trace_062_18 = (1, sent 82) ∷ trace_062_17
+
+abbrev trace_062_19 : Trace
+trace_062_19 = (1, sent 0) ∷ trace_062_18
+
+abbrev trace_062_21 : Trace
+trace_062_21 = (1, came (codes ": 1\r\n\r\n")) ∷ trace_062_19
+
+abbrev trace_062_22 : Trace
+trace_062_22 = (1, called call.Fault None) ∷ (1, broken) ∷ (1, caused cause.Shut) ∷ trace_062_21
+
+abbrev trace_062_23 : Trace
+trace_062_23 = (1, started job.ReadError) ∷ trace_062_22
+
+abbrev trace_062_26 : Trace
+trace_062_26 = (1, back) ∷ trace_062_23
+
+abbrev trace_062_29 : Trace
+trace_062_29 = (2, started job.WriteError) ∷ trace_062_26
+
+abbrev trace_062_30 : Trace
+trace_062_30 = (2, back) ∷ trace_062_29
+
+abbrev trace_062_35 : Trace
+trace_062_35 = (2, started (job.OnError 0 32)) ∷ trace_062_30
+
+abbrev trace_062_37 : Trace
+trace_062_37 = (2, back) ∷ trace_062_35
+
+abbrev trace_062_38 : Trace
+trace_062_38 = (2, started (job.OnError 1 205)) ∷ trace_062_37
+
+abbrev trace_062_40 : Trace
+trace_062_40 = (7, aborted) ∷ (7, called call.Return None) ∷ (7, back) ∷ trace_062_38
+
+abbrev trace_062_42 : Trace
+trace_062_42 = (17, started (job.OnComplete 0 32)) ∷ trace_062_40
+
+trace_062-connection : connection_told trace_062_42
     ≡ record {
-      came = 55;
-      consumed = 55;
-      room = 16384;
+      came = 111;
+      consumed = 27;
+      room = 16300;
       has_ended = false;
-      cause = (Some cause.LastAnswer);
+      cause = (Some cause.Shut);
       is_broken = true;
-      is_gone = true;
-      is_open = false;
+      is_gone = false;
+      is_open = true;
       begun = 1;
-      output = (codes "HTTP/1.1 404 \r\nContent-Type: text/plain\r\nContent-Length: 10\r\nDate: Thu, 01 Jan 1970 00:00:00 GMT\r\nConnection: close\r\n\r\nError 404\n");
-      took = 0;
+      output = (codes "HTTP/1.1 200 \r\nTransfer-Encoding: chunked\r\nDate: Thu, 01 Jan 1970 00:00:00 GMT\r\n\r\n");
+      took = 82;
       unsent = 0;
-      idle_since = 0;
+      idle_since = 1;
       next_job = None;
-      charts = ([]) ∷ [];
+      charts = (call.Run ∷ call.Start ∷ call.Return ∷ call.Fault ∷ call.Return ∷ []) ∷ [];
     }
 unfolding head_text digits date_at count_off is_name_byte
-trace_069-connection = refl
+trace_062-connection = refl
 
-trace_069-request : request_told trace_069_04
+trace_062-request : request_told trace_062_42
     ≡ record {
       part = 0;
-      state = state.Dispatched;
-      running = None;
+      state = state.Completing;
+      running = (Some (job.OnComplete 0 32));
       parked = None;
       given = 0;
       is_end_told = false;
-      waiting = 1;
-      used = 1;
-      swallowed = 1;
+      waiting = 0;
+      used = 0;
+      swallowed = 0;
       has_whole_body = true;
       has_bad_body = false;
-      listeners = [];
-      owed = [];
+      listeners = 32 ∷ 205 ∷ [];
+      owed = (job.OnComplete 1 205) ∷ [];
       deadline = None;
-      ready = record { read_set = false; read_armed = false; all_read_told = false; write_set = false; write_armed = false };
+      ready = record { read_set = true; read_armed = true; all_read_told = false; write_set = true; write_armed = true };
     }
 unfolding is_name_byte
-trace_069-request = refl
+trace_062-request = refl
 
-trace_069-answer : answer_told trace_069_04
+trace_062-answer : answer_told trace_062_42
     ≡ record {
-      status = 404;
-      fields = record { name = (codes "Content-Type"); value = (codes "text/plain") } ∷ [];
+      status = 200;
+      fields = [];
       set_length = None;
-      content = 10;
-      is_aborted = false;
+      content = 0;
+      is_aborted = true;
     }
 unfolding digits
-trace_069-answer = refl
+trace_062-answer = refl
 
-trace_069-01-settled : settled trace_069_limits trace_069_rules 0 ((0, opened) ∷ [])
-    ≡ trace_069_01
-unfolding settled head_text digits date_at count_off is_name_byte trimmed front_length whole_head host_fits head_of verdict_of target_of framed is_utf8 chars encode
-trace_069-01-settled = refl
-
-trace_069-03-tick : tick_move trace_069_limits 19999 trace_069_02
-    ≡ None
-unfolding head_text digits date_at count_off is_name_byte
-trace_069-03-tick = refl
-
-trace_069-04-tick : tick_move trace_069_limits 20000 trace_069_02
-    ≡ Some (broken ∷ [])
-unfolding head_text digits date_at count_off is_name_byte
-trace_069-04-tick = refl
-
-trace_069-04-settled : settled trace_069_limits trace_069_rules 20000 ((20000, broken) ∷ trace_069_02)
-    ≡ trace_069_04
-unfolding settled head_text digits date_at count_off is_name_byte trimmed front_length whole_head host_fits head_of verdict_of target_of framed is_utf8 chars encode
-trace_069-04-settled = refl
-
-trace_069-05-tick : tick_move trace_069_limits 20000 trace_069_04
-    ≡ None
-unfolding head_text digits date_at count_off is_name_byte
-trace_069-05-tick = refl
-
-abbrev trace_071_limits : Limits
-trace_071_limits = record { max_connections = 256; max_head = 8192; max_fields = 100; max_keep_alive = pos 100; connection_timeout = 20000; async_timeout = 30000; max_swallow = 2097152; max_trailer = 8192; parts = 0 }
-
-abbrev trace_071_rules : List Rule
-trace_071_rules = []
-
-abbrev trace_071_01 : Trace
-trace_071_01 = (0, opened) ∷ []
-
-abbrev trace_071_02 : Trace
-trace_071_02 = (0, caused cause.Refused) ∷ (0, refused 501 false) ∷ (0, came (codes "CONNECT /q.do HTTP/1.1\r\nHost: [::1]:80\r\nTransfer-Encoding: chunked\r\nX: llllllllllllllllllllllllllllllllllllllll\r\nX: llllllllllllllllllllllllllllllllllllllll\r\n\r\n")) ∷ trace_071_01
-
-abbrev trace_071_04 : Trace
-trace_071_04 = (20000, broken) ∷ trace_071_02
-
-trace_071-connection : connection_told trace_071_04
+trace_062-open : open_told trace_062_42
     ≡ record {
-      came = 160;
-      consumed = 0;
-      room = 16224;
-      has_ended = false;
-      cause = (Some cause.Refused);
-      is_broken = true;
-      is_gone = true;
-      is_open = false;
-      begun = 0;
-      output = (codes "HTTP/1.1 501 \r\nContent-Type: text/plain\r\nContent-Length: 10\r\nDate: Thu, 01 Jan 1970 00:00:00 GMT\r\nConnection: close\r\n\r\nError 501\n");
-      took = 0;
-      unsent = 0;
-      idle_since = 0;
-      next_job = None;
-      charts = [];
+      is_committed = true;
+      takes_one = true;
+      has_to_cut = false;
     }
 unfolding head_text digits date_at count_off is_name_byte
-trace_071-connection = refl
+trace_062-open = refl
 
-trace_071-01-settled : settled trace_071_limits trace_071_rules 0 ((0, opened) ∷ [])
-    ≡ trace_071_01
+trace_062-01-settled : settled trace_062_limits trace_062_rules 0 ((0, opened) ∷ [])
+    ≡ trace_062_01
 unfolding settled head_text digits date_at count_off is_name_byte trimmed front_length whole_head host_fits head_of verdict_of target_of framed is_utf8 chars encode
-trace_071-01-settled = refl
+trace_062-01-settled = refl
 
-trace_071-02-settled : settled trace_071_limits trace_071_rules 0 ((0, came (codes "CONNECT /q.do HTTP/1.1\r\nHost: [::1]:80\r\nTransfer-Encoding: chunked\r\nX: llllllllllllllllllllllllllllllllllllllll\r\nX: llllllllllllllllllllllllllllllllllllllll\r\n\r\n")) ∷ trace_071_01)
-    ≡ trace_071_02
+trace_062-02-settled : settled trace_062_limits trace_062_rules 0 ((0, came (codes "GET / HTTP/1.1\r\nHost: a\r\n\r\n")) ∷ trace_062_01)
+    ≡ trace_062_02
 unfolding settled head_text digits date_at count_off is_name_byte trimmed front_length whole_head host_fits head_of verdict_of target_of framed is_utf8 chars encode
-trace_071-02-settled = refl
+trace_062-02-settled = refl
 
-trace_071-03-tick : tick_move trace_071_limits 19999 trace_071_02
+trace_062-03-next : next_job (trace_062_02)
+    ≡ (Some (job.Service 0))
+unfolding head_text digits date_at count_off is_name_byte
+trace_062-03-next = refl
+
+trace_062-04-settled : settled trace_062_limits trace_062_rules 0 ((0, flushed) ∷ trace_062_03)
+    ≡ trace_062_04
+unfolding settled head_text digits date_at count_off is_name_byte trimmed front_length whole_head host_fits head_of verdict_of target_of framed is_utf8 chars encode
+trace_062-04-settled = refl
+
+trace_062-05-settled : settled trace_062_limits trace_062_rules 0 ((0, called call.Start None) ∷ trace_062_04)
+    ≡ trace_062_05
+unfolding settled head_text digits date_at count_off is_name_byte trimmed front_length whole_head host_fits head_of verdict_of target_of framed is_utf8 chars encode
+trace_062-05-settled = refl
+
+trace_062-06-settled : settled trace_062_limits trace_062_rules 0 ((0, came (codes "GET / HTTP/1.1\r\nHost: a\r\n\r\n")) ∷ trace_062_05)
+    ≡ trace_062_06
+unfolding settled head_text digits date_at count_off is_name_byte trimmed front_length whole_head host_fits head_of verdict_of target_of framed is_utf8 chars encode
+trace_062-06-settled = refl
+
+trace_062-07-settled : settled trace_062_limits trace_062_rules 0 ((0, read_listener_set) ∷ trace_062_06)
+    ≡ trace_062_07
+unfolding settled head_text digits date_at count_off is_name_byte trimmed front_length whole_head host_fits head_of verdict_of target_of framed is_utf8 chars encode
+trace_062-07-settled = refl
+
+trace_062-09-settled : settled trace_062_limits trace_062_rules 0 ((0, write_listener_set) ∷ trace_062_07)
+    ≡ trace_062_09
+unfolding settled head_text digits date_at count_off is_name_byte trimmed front_length whole_head host_fits head_of verdict_of target_of framed is_utf8 chars encode
+trace_062-09-settled = refl
+
+trace_062-10-tick : tick_move trace_062_limits 1 trace_062_09
     ≡ None
 unfolding head_text digits date_at count_off is_name_byte
-trace_071-03-tick = refl
+trace_062-10-tick = refl
 
-trace_071-04-tick : tick_move trace_071_limits 20000 trace_071_02
-    ≡ Some (broken ∷ [])
-unfolding head_text digits date_at count_off is_name_byte
-trace_071-04-tick = refl
-
-trace_071-04-settled : settled trace_071_limits trace_071_rules 20000 ((20000, broken) ∷ trace_071_02)
-    ≡ trace_071_04
+trace_062-11-settled : settled trace_062_limits trace_062_rules 1 ((1, listened 32) ∷ trace_062_09)
+    ≡ trace_062_11
 unfolding settled head_text digits date_at count_off is_name_byte trimmed front_length whole_head host_fits head_of verdict_of target_of framed is_utf8 chars encode
-trace_071-04-settled = refl
+trace_062-11-settled = refl
 
-abbrev trace_078_limits : Limits
-trace_078_limits = record { max_connections = 256; max_head = 8192; max_fields = 6; max_keep_alive = pos 3; connection_timeout = 20000; async_timeout = 30000; max_swallow = 100; max_trailer = 8192; parts = 4 }
-
-abbrev trace_078_rules : List Rule
-trace_078_rules = record { pattern = (codes "/a/*"); part = 2; can_async = true } ∷ record { pattern = (codes "*.do"); part = 3; can_async = true } ∷ record { pattern = (codes "/"); part = 0; can_async = false } ∷ record { pattern = (codes "/x/*"); part = 2; can_async = false } ∷ []
-
-abbrev trace_078_01 : Trace
-trace_078_01 = (0, opened) ∷ []
-
-abbrev trace_078_03 : Trace
-trace_078_03 = (0, came (codes "\r\nPUT /")) ∷ trace_078_01
-
-abbrev trace_078_04 : Trace
-trace_078_04 = (20000, broken) ∷ (20000, caused cause.IdleTimeout) ∷ trace_078_03
-
-trace_078-connection : connection_told trace_078_04
-    ≡ record {
-      came = 7;
-      consumed = 0;
-      room = 16377;
-      has_ended = false;
-      cause = (Some cause.IdleTimeout);
-      is_broken = true;
-      is_gone = true;
-      is_open = false;
-      begun = 0;
-      output = [];
-      took = 0;
-      unsent = 0;
-      idle_since = 0;
-      next_job = None;
-      charts = [];
-    }
-unfolding head_text digits date_at count_off is_name_byte
-trace_078-connection = refl
-
-trace_078-01-settled : settled trace_078_limits trace_078_rules 0 ((0, opened) ∷ [])
-    ≡ trace_078_01
+trace_062-12-settled : settled trace_062_limits trace_062_rules 1 ((1, timeout_set 1) ∷ trace_062_11)
+    ≡ trace_062_12
 unfolding settled head_text digits date_at count_off is_name_byte trimmed front_length whole_head host_fits head_of verdict_of target_of framed is_utf8 chars encode
-trace_078-01-settled = refl
+trace_062-12-settled = refl
 
-trace_078-03-settled : settled trace_078_limits trace_078_rules 0 ((0, came (codes "\r\nPUT /")) ∷ trace_078_01)
-    ≡ trace_078_03
+trace_062-13-settled : settled trace_062_limits trace_062_rules 1 ((1, listened 205) ∷ trace_062_12)
+    ≡ trace_062_13
 unfolding settled head_text digits date_at count_off is_name_byte trimmed front_length whole_head host_fits head_of verdict_of target_of framed is_utf8 chars encode
-trace_078-03-settled = refl
+trace_062-13-settled = refl
 
-trace_078-04-tick : tick_move trace_078_limits 20000 trace_078_03
-    ≡ Some (caused cause.IdleTimeout ∷ broken ∷ [])
-unfolding head_text digits date_at count_off is_name_byte
-trace_078-04-tick = refl
-
-trace_078-04-settled : settled trace_078_limits trace_078_rules 20000 ((20000, broken) ∷ (20000, caused cause.IdleTimeout) ∷ trace_078_03)
-    ≡ trace_078_04
+trace_062-14-settled : settled trace_062_limits trace_062_rules 1 ((1, timeout_set 0) ∷ trace_062_13)
+    ≡ trace_062_14
 unfolding settled head_text digits date_at count_off is_name_byte trimmed front_length whole_head host_fits head_of verdict_of target_of framed is_utf8 chars encode
-trace_078-04-settled = refl
+trace_062-14-settled = refl
 
-trace_078-11-tick : tick_move trace_078_limits 20001 trace_078_04
+trace_062-16-settled : settled trace_062_limits trace_062_rules 1 ((1, called call.Return None) ∷ (1, back) ∷ trace_062_14)
+    ≡ trace_062_16
+unfolding settled head_text digits date_at count_off is_name_byte trimmed front_length whole_head host_fits head_of verdict_of target_of framed is_utf8 chars encode
+trace_062-16-settled = refl
+
+trace_062-17-settled : settled trace_062_limits trace_062_rules 1 ((1, came (codes "\n\r\nPOST / HTTP/1.1\r\nHost: [::1]:80\r\nContent-Length")) ∷ trace_062_16)
+    ≡ trace_062_17
+unfolding settled head_text digits date_at count_off is_name_byte trimmed front_length whole_head host_fits head_of verdict_of target_of framed is_utf8 chars encode
+trace_062-17-settled = refl
+
+trace_062-18-settled : settled trace_062_limits trace_062_rules 1 ((1, sent 82) ∷ trace_062_17)
+    ≡ trace_062_18
+unfolding settled head_text digits date_at count_off is_name_byte trimmed front_length whole_head host_fits head_of verdict_of target_of framed is_utf8 chars encode
+trace_062-18-settled = refl
+
+trace_062-19-settled : settled trace_062_limits trace_062_rules 1 ((1, sent 0) ∷ trace_062_18)
+    ≡ trace_062_19
+unfolding settled head_text digits date_at count_off is_name_byte trimmed front_length whole_head host_fits head_of verdict_of target_of framed is_utf8 chars encode
+trace_062-19-settled = refl
+
+trace_062-20-tick : tick_move trace_062_limits 1 trace_062_19
     ≡ None
 unfolding head_text digits date_at count_off is_name_byte
-trace_078-11-tick = refl
+trace_062-20-tick = refl
+
+trace_062-21-settled : settled trace_062_limits trace_062_rules 1 ((1, came (codes ": 1\r\n\r\n")) ∷ trace_062_19)
+    ≡ trace_062_21
+unfolding settled head_text digits date_at count_off is_name_byte trimmed front_length whole_head host_fits head_of verdict_of target_of framed is_utf8 chars encode
+trace_062-21-settled = refl
+
+trace_062-22-settled : settled trace_062_limits trace_062_rules 1 ((1, called call.Fault None) ∷ (1, broken) ∷ (1, caused cause.Shut) ∷ trace_062_21)
+    ≡ trace_062_22
+unfolding settled head_text digits date_at count_off is_name_byte trimmed front_length whole_head host_fits head_of verdict_of target_of framed is_utf8 chars encode
+trace_062-22-settled = refl
+
+trace_062-23-next : next_job (trace_062_22)
+    ≡ (Some job.ReadError)
+unfolding head_text digits date_at count_off is_name_byte
+trace_062-23-next = refl
+
+trace_062-26-settled : settled trace_062_limits trace_062_rules 1 ((1, back) ∷ trace_062_23)
+    ≡ trace_062_26
+unfolding settled head_text digits date_at count_off is_name_byte trimmed front_length whole_head host_fits head_of verdict_of target_of framed is_utf8 chars encode
+trace_062-26-settled = refl
+
+trace_062-27-tick : tick_move trace_062_limits 1 trace_062_26
+    ≡ None
+unfolding head_text digits date_at count_off is_name_byte
+trace_062-27-tick = refl
+
+trace_062-28-tick : tick_move trace_062_limits 2 trace_062_26
+    ≡ None
+unfolding head_text digits date_at count_off is_name_byte
+trace_062-28-tick = refl
+
+trace_062-29-next : next_job (trace_062_26)
+    ≡ (Some job.WriteError)
+unfolding head_text digits date_at count_off is_name_byte
+trace_062-29-next = refl
+
+trace_062-30-settled : settled trace_062_limits trace_062_rules 2 ((2, back) ∷ trace_062_29)
+    ≡ trace_062_30
+unfolding settled head_text digits date_at count_off is_name_byte trimmed front_length whole_head host_fits head_of verdict_of target_of framed is_utf8 chars encode
+trace_062-30-settled = refl
+
+trace_062-32-tick : tick_move trace_062_limits 2 trace_062_30
+    ≡ None
+unfolding head_text digits date_at count_off is_name_byte
+trace_062-32-tick = refl
+
+trace_062-34-tick : tick_move trace_062_limits 2 trace_062_30
+    ≡ None
+unfolding head_text digits date_at count_off is_name_byte
+trace_062-34-tick = refl
+
+trace_062-35-next : next_job (trace_062_30)
+    ≡ (Some (job.OnError 0 32))
+unfolding head_text digits date_at count_off is_name_byte
+trace_062-35-next = refl
+
+trace_062-37-settled : settled trace_062_limits trace_062_rules 2 ((2, back) ∷ trace_062_35)
+    ≡ trace_062_37
+unfolding settled head_text digits date_at count_off is_name_byte trimmed front_length whole_head host_fits head_of verdict_of target_of framed is_utf8 chars encode
+trace_062-37-settled = refl
+
+trace_062-38-next : next_job (trace_062_37)
+    ≡ (Some (job.OnError 1 205))
+unfolding head_text digits date_at count_off is_name_byte
+trace_062-38-next = refl
+
+trace_062-39-tick : tick_move trace_062_limits 7 trace_062_38
+    ≡ None
+unfolding head_text digits date_at count_off is_name_byte
+trace_062-39-tick = refl
+
+trace_062-40-settled : settled trace_062_limits trace_062_rules 7 ((7, back) ∷ trace_062_38)
+    ≡ trace_062_40
+unfolding settled head_text digits date_at count_off is_name_byte trimmed front_length whole_head host_fits head_of verdict_of target_of framed is_utf8 chars encode
+trace_062-40-settled = refl
+
+trace_062-41-tick : tick_move trace_062_limits 17 trace_062_40
+    ≡ None
+unfolding head_text digits date_at count_off is_name_byte
+trace_062-41-tick = refl
+
+trace_062-42-next : next_job (trace_062_40)
+    ≡ (Some (job.OnComplete 0 32))
+unfolding head_text digits date_at count_off is_name_byte
+trace_062-42-next = refl
+
+trace_062-43-reply : reply_to trace_062_limits trace_062_rules 0 trace_062_42 (on_act (act.Read 100) [])
+    ≡ plain reply.Closed
+unfolding reply_to head_text digits date_at count_off is_name_byte
+trace_062-43-reply = refl

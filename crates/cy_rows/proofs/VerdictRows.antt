@@ -157,27 +157,15 @@ expectation_before_not_found : without_rules (codes "GET") (codes "/") 1 (other_
 unfolding verdict_of framings_on_literals targets_on_literals
 expectation_before_not_found = refl
 
--- ---- then what isn't served so far: a body, also one of no bytes, and the method HEAD
-
-length_isnt_served : verdict (codes "POST") (codes "/") 1 (of_length (codes "3")) ≡ turned_away 501
-unfolding verdict_of framings_on_literals targets_on_literals
-length_isnt_served = refl
-
-length_of_0_isnt_served : verdict (codes "POST") (codes "/") 1 (of_length (codes "0")) ≡ turned_away 501
-unfolding verdict_of framings_on_literals targets_on_literals
-length_of_0_isnt_served = refl
-
-chunks_arent_served : verdict (codes "POST") (codes "/") 1 in_chunks ≡ turned_away 501
-unfolding verdict_of framings_on_literals targets_on_literals
-chunks_arent_served = refl
+-- ---- then what isn't served so far: the method HEAD, with a body or without
 
 head_isnt_served : verdict (codes "HEAD") (codes "/") 1 plain ≡ turned_away 501
 unfolding verdict_of framings_on_literals targets_on_literals
 head_isnt_served = refl
 
-body_before_not_found : without_rules (codes "POST") (codes "/") 1 in_chunks ≡ turned_away 501
+head_with_a_body : verdict (codes "HEAD") (codes "/") 1 in_chunks ≡ turned_away 501
 unfolding verdict_of framings_on_literals targets_on_literals
-body_before_not_found = refl
+head_with_a_body = refl
 
 method_before_not_found : without_rules (codes "HEAD") (codes "/") 1 plain ≡ turned_away 501
 unfolding verdict_of framings_on_literals targets_on_literals
@@ -192,6 +180,34 @@ not_found_at_last = refl
 served_at_last : verdict (codes "POST") (codes "/x?y") 1 plain ≡ served the_rule simply
 unfolding verdict_of framings_on_literals targets_on_literals
 served_at_last = refl
+
+-- with the framing of the body, whether a rule serves the path or none does
+abbrev framed_as : Framing → Framed
+framed_as body = record simply { body = body }
+
+a_length_is_served : map (λ n. verdict (codes "POST") (codes "/") 1 (of_length n)) (codes "3" ∷ codes "0" ∷ [])
+    ≡ served the_rule (framed_as (framing.Length 3)) ∷ served the_rule (framed_as (framing.Length 0)) ∷ []
+unfolding verdict_of framings_on_literals targets_on_literals
+a_length_is_served = refl
+
+chunks_are_served : verdict (codes "POST") (codes "/") 1 in_chunks ≡ served the_rule (framed_as framing.Chunked)
+unfolding verdict_of framings_on_literals targets_on_literals
+chunks_are_served = refl
+
+-- of any method but HEAD, and in HTTP/1.0 too
+a_body_of_get : verdict (codes "GET") (codes "/") 0 (of_length (codes "3"))
+    ≡ served the_rule (record { body = framing.Length 3; keep = false; go_on = false })
+unfolding verdict_of framings_on_literals targets_on_literals
+a_body_of_get = refl
+
+chunks_not_found : without_rules (codes "POST") (codes "/") 1 in_chunks ≡ unserved (framed_as framing.Chunked)
+unfolding verdict_of framings_on_literals targets_on_literals
+chunks_not_found = refl
+
+a_length_not_found : without_rules (codes "POST") (codes "/") 1 (of_length (codes "3"))
+    ≡ unserved (framed_as (framing.Length 3))
+unfolding verdict_of framings_on_literals targets_on_literals
+a_length_not_found = refl
 
 -- HTTP/1.0 expects nothing, and has no codings
 old_expectation : verdict (codes "GET") (codes "/") 0 (other_expectation plain)

@@ -9,6 +9,8 @@ use cy_map::Rule;
 use std::process::Abort;
 use std::test::Fail;
 
+mod bodies;
+
 /// A connection whose component 0 serves `/a` and what is below it.
 #[derive(Drop)]
 struct Course {
@@ -176,7 +178,7 @@ fn expect(
 
 #[test]
 fn heads_have_their_answers(rt: HostRuntime) -> Result<(), Fail> {
-    let rows: [(&[u8], &str, Option<CloseCause>); 14] = [
+    let rows: [(&[u8], &str, Option<CloseCause>); 15] = [
         (b"GET /a HTTP/1.1\r\nHost: a\r\n\r\n", "served", None),
         (
             b"GET /a HTTP/1.1\r\nHost: a\r\n\r\nGET /a/b HTTP/1.1\r\nHost: a\r\n\r\n",
@@ -232,14 +234,20 @@ fn heads_have_their_answers(rt: HostRuntime) -> Result<(), Fail> {
             "served bad",
             Some(CloseCause::Refused),
         ),
+        // A body that nobody reads, where a rule serves its path and where none does.
+        (
+            b"POST /a HTTP/1.1\r\nHost: a\r\nContent-Length: 3\r\n\r\nxyzGET /a HTTP/1.1\r\nHost: a\r\n\r\n",
+            "served served",
+            None,
+        ),
+        (
+            b"POST /b HTTP/1.1\r\nHost: a\r\nContent-Length: 3\r\n\r\nxyzGET /a HTTP/1.1\r\nHost: a\r\n\r\n",
+            "absent served",
+            None,
+        ),
         // What isn't served so far.
         (
             b"CONNECT a:1 HTTP/1.1\r\nHost: a\r\n\r\n",
-            "unbuilt",
-            Some(CloseCause::Refused),
-        ),
-        (
-            b"POST /a HTTP/1.1\r\nHost: a\r\nContent-Length: 1\r\n\r\n",
             "unbuilt",
             Some(CloseCause::Refused),
         ),

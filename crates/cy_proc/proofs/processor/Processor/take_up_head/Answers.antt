@@ -14,5 +14,5 @@ returns-in-TurnedAway-clause-line c =
 pub returns-in-Unserved-clause-line : goal.returns-in-Unserved-clause-line
 returns-in-Unserved-clause-line c =
     subst (λ (p : ProcessorParts). c.end_with_error.new.self ≡ line_with (due_of_head p.limits c.args.rules.now c.args.size p.table.head c.args.line.now) c.args.line.now) c.self.view_is
-    (unserved_from c.self.inside.limits c.args.rules.now c.args.size c.minor.result c.in-Unserved.keep c.next_persists-self-inside.result c.self.inside.table c.judge.new.table c.args.line.now c.begin.new.self c.end_with_error.new.self
+    (unserved_from c.self.inside.limits c.args.rules.now c.args.size c.minor.result c.in-Unserved.framed c.next_persists-self-inside.result c.self.inside.table c.judge.new.table c.args.line.now c.begin.new.self c.end_with_error.new.self
     c.in-Unserved.ensures.verdict c.in-Unserved.ensures.table c.next_persists-self-inside.ensures c.minor.ensures.value c.begin.ensures c.end_with_error.ensures)
