@@ -47,9 +47,14 @@ pub enum Event {
     Took(u64),
 }
 
+/// As much content as one read may ask for.
+pub const GREATEST_READ: u32 = 65_536;
+
 /// What a running callback does. The bytes that an act counts stand beside it, and are its first ones.
 #[derive(Clone, Copy, Debug, PartialEq, Eq)]
 pub enum Act {
+    /// Reads at most so many bytes of the content of the request.
+    Read(u32),
     /// Writes so many bytes of content.
     Write(u32),
     /// Returns from the callback.
