@@ -19,7 +19,7 @@ pub use framing::Framing;
 pub use head::{FIELD_ROOM, FieldSpan, HEAD_ROOM, RequestHead, extend_in_room};
 pub use limits::{GREATEST_MOMENT, Limits};
 pub use no_memory::NoMemory;
-pub use steps::{Act, Call, CloseCause, Event, Job, Reply, State, Step};
+pub use steps::{Act, Call, CloseCause, Event, GREATEST_READ, Job, Reply, State, Step};
 pub use table::{ChartItem, Row};
 
 #[cfg(test)]

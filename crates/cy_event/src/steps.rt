@@ -47,6 +47,9 @@ pub enum Event {
     Took(u64),
 }
 
+/// As much content as one read may ask for.
+pub const GREATEST_READ: u32 = 65_536;
+
 /// What a running callback does. The bytes that an act counts stand beside it, and are its first ones.
 #[derive(Clone, Copy, Debug, PartialEq, Eq)]
 pub enum Act {

@@ -2,7 +2,7 @@
 use Rattle.std.proofs.Common.{◌≡◌, ℕ, inl, inr, true, eqb, List, [], ◌∷◌, length, refl, sym, ap, subst, arith}
 use Rattle.std.specs.Prelude.{fold, negsuc, pos}
 use Rattle.std.specs.List.{AllZip, filter_map, list_all}
-use Rattle.std.proofs.lemmas.Bool.{le-leb}
+use Rattle.std.proofs.lemmas.Bool.{and_from, le-leb}
 use Rattle.std.proofs.lemmas.Bool.Decides.{nat_tests}
 use Rattle.cy_event.specs.Limits.{standard}
 use Rattle.cy_event.specs.declared.limits.Limits.{Limits}
@@ -85,6 +85,7 @@ step_has_its_bytes line (step.On conn event.In bytes) h = refl
 step_has_its_bytes line (step.On conn event.End bytes) h = same_number (length bytes) 0 (ap length h.1)
 step_has_its_bytes line (step.On conn (event.Took n) bytes) h = same_number (length bytes) 0 (ap length h.3)
 step_has_its_bytes line (step.Run conn) h = refl
+step_has_its_bytes line (step.Act conn (act.Read n) bytes) h = and_from _ _ (le-leb _ _ h.3) (same_number (length bytes) 0 (ap length h.4))
 step_has_its_bytes line (step.Act conn (act.Write n) bytes) h = same_number n (length bytes) h.3
 step_has_its_bytes line (step.Act conn act.Return bytes) h = same_number (length bytes) 0 (ap length h.1)
 

@@ -1,17 +1,18 @@
 -- The lines of steps, as they are read and as they are written.
-use Rattle.std.proofs.Common.{◌≡◌, ℕ, ◌<◌, ◌^◌, inl, inr, Bool, true, cond, ltb, List, [], ◌∷◌, ◌++◌, length, Option, Some, None, refl, sym, ap, subst, ◌∙◌}
+use Rattle.std.proofs.Common.{◌≡◌, ℕ, ◌<◌, ◌≤◌, ◌^◌, inl, inr, Bool, true, cond, leb, ltb, List, [], ◌∷◌, ◌++◌, length, Option, Some, None, refl, sym, ap, subst, ◌∙◌}
 use Rattle.std.specs.Prelude.{codes, option_map, bytes_eq}
 use Rattle.std.specs.Option.{option_and_then}
-use Rattle.std.proofs.lemmas.Bool.{ltb-true, lt-ltb}
+use Rattle.std.proofs.lemmas.Bool.{leb-true, le-leb, ltb-true, lt-ltb}
 use Rattle.std.proofs.lemmas.List.{append-nil}
 use Rattle.std.proofs.lemmas.Slice.Eq.{bytes_eq-Decides}
 use Rattle.cy_event.specs.declared.steps.Act.TheVariants as act
 use Rattle.cy_event.specs.declared.steps.Event.TheVariants as event
 use Rattle.cy_event.specs.declared.steps.Step.{Step}
 use Rattle.cy_event.specs.declared.steps.Step.TheVariants as step
+use Rattle.cy_event.specs.declared.steps.TheConstants.{GREATEST_READ}
 use Rattle.cy_script.specs.declared.statements.Statement.TheVariants as statement
 use Rattle.cy_script.specs.TextLines.{HasNumber, IsNumber, IsQuoted, IsStepLine}
-use Rattle.cy_script.specs.Reading.{act_of, alone, came_of, number_field, quoted_field, statement_of, step_line, step_of_word, taken_of, word_field, write_of}
+use Rattle.cy_script.specs.Reading.{act_of, alone, came_of, number_field, quoted_field, read_of, statement_of, step_line, step_of_word, taken_of, word_field, write_of}
 use Rattle.cy_script.proofs.FieldsRead.{alone_is, bind_some, cond_cases, map_some, number_field_is, number_field_last, number_field_then, quoted_field_is, quoted_field_again, word_field_is}
 use Rattle.cy_script.proofs.Words.{some_then}
 
@@ -70,19 +71,44 @@ out_is digits rest conn s number h =
     let follows : rest ≡ 32 ∷ field.digits = field.parts ∙ ap (λ (r : List ℕ). 32 ∷ (field.digits ++ r)) ends.0 ∙ ap (λ (t : List ℕ). 32 ∷ t) (append-nil field.digits) in
     subst (λ (t : Step). IsStepLine (number_line (codes "out") digits rest) t) ends.1 (field.digits, field.number, before_field (codes "out") digits rest field.digits conn number follows, refl)
 
-write_is : (digits rest : List ℕ) (conn : ℕ) (s : Step) → IsNumber digits conn → act_of conn rest ≡ Some s → IsStepLine (number_line (codes "act") digits rest) s
-write_is digits rest conn s number h =
-    let word = bind_some (word_field rest) (λ a. cond (bytes_eq a.0 (codes "write")) (option_and_then (write_of conn) (quoted_field a.1)) None) s h in
-    let known = some_then (bytes_eq word.0.0 (codes "write")) (option_and_then (write_of conn) (quoted_field word.0.1)) s word.2 in
-    let write = bind_some (quoted_field word.0.1) (write_of conn) s known.1 in
-    let field = quoted_field_is word.0.1 write.0 write.1 in
+-- an act of this word, with what follows it
+abbrev act_field : List ℕ → List ℕ → List ℕ
+act_field word rest = 32 ∷ (word ++ rest)
+
+write_is : (digits rest more : List ℕ) (conn : ℕ) (s : Step) → IsNumber digits conn → rest ≡ act_field (codes "write") more
+    → option_and_then (write_of conn) (quoted_field more) ≡ Some s → IsStepLine (number_line (codes "act") digits rest) s
+write_is digits rest more conn s number parts h =
+    let write = bind_some (quoted_field more) (write_of conn) s h in
+    let field = quoted_field_is more write.0 write.1 in
     let fits = some_then (ltb (length write.0) (2 ^ 32)) (Some (step.Act conn (act.Write (length write.0)) write.0)) s write.2 in
     let made : step.Act conn (act.Write (length write.0)) write.0 ≡ s = cc fits.1 in
-    let named : word.0.0 ≡ codes "write" = same_bytes word.0.0 (codes "write") known.0 in
-    let follows : rest ≡ 32 ∷ (codes "write" ++ 32 ∷ field.quoted) =
-    (word_field_is rest word.0 word.1).parts ∙ ap (λ (w : List ℕ). 32 ∷ (w ++ word.0.1)) named ∙ ap (λ (r : List ℕ). 32 ∷ (codes "write" ++ r)) field.parts in
+    let follows : rest ≡ act_field (codes "write") (32 ∷ field.quoted) = parts ∙ ap (act_field (codes "write")) field.parts in
     subst (λ (t : Step). IsStepLine (number_line (codes "act") digits rest) t) made
     (field.quoted, field.quotes, before_fields (codes "act") digits rest (codes "write") field.quoted conn number follows, refl, ltb-true _ _ fits.0)
+
+read_is : (digits rest more : List ℕ) (conn : ℕ) (s : Step) → IsNumber digits conn → rest ≡ act_field (codes "read") more → read_of conn more ≡ Some s
+    → IsStepLine (number_line (codes "act") digits rest) s
+read_is digits rest more conn s number parts h =
+    let count = bind_some (number_field more) (λ c. cond (leb c.0 GREATEST_READ) (alone (step.Act conn (act.Read c.0) []) c.1) None) s h in
+    let field = number_field_is more count.0 count.1 in
+    let fits = some_then (leb count.0.0 GREATEST_READ) (alone (step.Act conn (act.Read count.0.0) []) count.0.1) s count.2 in
+    let ends = alone_is (step.Act conn (act.Read count.0.0) []) s count.0.1 fits.1 in
+    let last : more ≡ 32 ∷ field.digits = field.parts ∙ ap (λ (r : List ℕ). 32 ∷ (field.digits ++ r)) ends.0 ∙ ap (λ (t : List ℕ). 32 ∷ t) (append-nil field.digits) in
+    let follows : rest ≡ act_field (codes "read") (32 ∷ field.digits) = parts ∙ ap (act_field (codes "read")) last in
+    subst (λ (t : Step). IsStepLine (number_line (codes "act") digits rest) t) ends.1
+    (field.digits, field.number, before_fields (codes "act") digits rest (codes "read") field.digits conn number follows, leb-true _ _ fits.0, refl)
+
+act_is : (digits rest : List ℕ) (conn : ℕ) (s : Step) → IsNumber digits conn → act_of conn rest ≡ Some s → IsStepLine (number_line (codes "act") digits rest) s
+act_is digits rest conn s number h =
+    let word = bind_some (word_field rest) (λ a. cond (bytes_eq a.0 (codes "write")) (option_and_then (write_of conn) (quoted_field a.1))
+    (cond (bytes_eq a.0 (codes "read")) (read_of conn a.1) None)) s h in
+    let parts = (word_field_is rest word.0 word.1).parts in
+    elim (cond_cases (bytes_eq word.0.0 (codes "write")) _ _ s word.2) as (λ _. IsStepLine (number_line (codes "act") digits rest) s) [
+      | inl writes ↦ write_is digits rest word.0.1 conn s number (parts ∙ ap (λ (w : List ℕ). act_field w word.0.1) (same_bytes word.0.0 (codes "write") writes.0)) writes.1
+      | inr other ↦
+          let reads = some_then (bytes_eq word.0.0 (codes "read")) (read_of conn word.0.1) s other.1 in
+          read_is digits rest word.0.1 conn s number (parts ∙ ap (λ (w : List ℕ). act_field w word.0.1) (same_bytes word.0.0 (codes "read") reads.0)) reads.1
+    ]
 
 -- the line begins with another word
 abbrev of_word : List ℕ → List ℕ → Step → List ℕ → Type 0
@@ -101,7 +127,7 @@ step_word_is word digits rest conn s number h =
             | inr other ↦ elim (cond_cases (bytes_eq word (codes "run")) _ _ s other.1) as (λ _. of_word digits rest s word) [
               | inl run ↦ subst (of_word digits rest s) (sym (same_bytes word (codes "run") run.0)) (run_is digits rest conn s number run.1)
               | inr other ↦ elim (cond_cases (bytes_eq word (codes "act")) _ _ s other.1) as (λ _. of_word digits rest s word) [
-                | inl acts ↦ subst (of_word digits rest s) (sym (same_bytes word (codes "act") acts.0)) (write_is digits rest conn s number acts.1)
+                | inl acts ↦ subst (of_word digits rest s) (sym (same_bytes word (codes "act") acts.0)) (act_is digits rest conn s number acts.1)
                 | inr other ↦
                     let returns = some_then (bytes_eq word (codes "return")) (alone (step.Act conn act.Return []) rest) s other.1 in
                     subst (of_word digits rest s) (sym (same_bytes word (codes "return") returns.0)) (return_is digits rest conn s number returns.1)
@@ -137,6 +163,11 @@ write_again : (quoted bytes : List ℕ) (conn : ℕ) → IsQuoted quoted bytes �
 write_again quoted bytes conn quotes fits =
     ap (λ (o : Option (List ℕ)). option_and_then (write_of conn) o) (quoted_field_again quoted bytes quotes)
     ∙ ap (λ (t : Bool). cond t (Some (step.Act conn (act.Write (length bytes)) bytes)) None) (lt-ltb _ _ fits)
+
+read_again : (digits : List ℕ) (n conn : ℕ) → IsNumber digits n → n ≤ GREATEST_READ → act_of conn (32 ∷ (codes "read" ++ 32 ∷ digits)) ≡ Some (step.Act conn (act.Read n) [])
+read_again digits n conn number few =
+    ap (λ (o : Option (ℕ × List ℕ)). option_and_then (λ c. cond (leb c.0 GREATEST_READ) (alone (step.Act conn (act.Read c.0) []) c.1) None) o) (number_field_last digits n number)
+    ∙ ap (λ (t : Bool). cond t (Some (step.Act conn (act.Read n) [])) None) (le-leb _ _ few)
 
 pub step_again : (line : List ℕ) (s : Step) → IsStepLine line s → IsReadFrom line s
 step_again line (step.At moment) h = absurd h
@@ -176,6 +207,15 @@ step_again line (step.Run conn) h = record {
   parts = h.2;
   of_steps = refl;
   read = ap (behind_number (codes "run")) (number_field_last h.0 conn h.1);
+}
+step_again line (step.Act conn (act.Read n) bytes) h = record {
+  word = codes "act";
+  fields = h.2.0 ++ 32 ∷ (codes "read" ++ 32 ∷ h.0);
+  parts = h.2.2;
+  of_steps = refl;
+  read = ap (behind_number (codes "act")) (number_field_then h.2.0 conn (codes "read" ++ 32 ∷ h.0) h.2.1)
+      ∙ read_again h.0 n conn h.1 h.3
+      ∙ ap (λ (b : List ℕ). Some (step.Act conn (act.Read n) b)) (sym h.4);
 }
 step_again line (step.Act conn (act.Write n) bytes) h =
     let fits : length bytes < 2 ^ 32 = subst (λ (k : ℕ). k < 2 ^ 32) h.3 h.4 in

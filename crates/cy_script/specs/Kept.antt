@@ -1,10 +1,11 @@
 -- What holds of every script that is read.
-use Rattle.std.specs.Prelude.{◌≡◌, ℕ, ◌⊎◌, ℤ, pos, negsuc, ◌==◌, Bool, true, List, length}
+use Rattle.std.specs.Prelude.{◌≡◌, ℕ, ◌⊎◌, ℤ, pos, negsuc, ◌==◌, nat_le, Bool, true, ◌&&◌, List, length}
 use Rattle.std.specs.List.{list_all}
 use Rattle.cy_event.specs.declared.limits.Limits.{Limits}
 use Rattle.cy_event.specs.declared.steps.Act.TheVariants as act
 use Rattle.cy_event.specs.declared.steps.Event.TheVariants as event
 use Rattle.cy_event.specs.declared.steps.Step.{Step}
+use Rattle.cy_event.specs.declared.steps.TheConstants.{GREATEST_READ}
 use Rattle.cy_event.specs.declared.steps.Step.TheVariants as step
 use Rattle.cy_script.specs.declared.script.Script.{Script}
 use Rattle.cy_settings.specs.declared.limit.Limit.TheVariants.{MaxConnections, MaxHttpHeaderSize, MaxHeaderCount, MaxKeepAliveRequests, ConnectionTimeout, AsyncTimeout, MaxSwallowSize, MaxTrailerSize}
@@ -31,10 +32,11 @@ pub record AreLimits (limits : Limits) : Type 0 where
 abbrev pub is_nothing : List ℕ → Bool
 is_nothing bytes = length bytes == 0
 
--- the bytes beside an event or an act are exactly those that it counts
+-- the bytes beside an event or an act are exactly those that it counts, and a read asks for no more than it may
 abbrev pub has_its_bytes : Step → Bool
 has_its_bytes (step.On conn event.End bytes) = is_nothing bytes
 has_its_bytes (step.On conn (event.Took n) bytes) = is_nothing bytes
+has_its_bytes (step.Act conn (act.Read n) bytes) = nat_le n GREATEST_READ && is_nothing bytes
 has_its_bytes (step.Act conn (act.Write n) bytes) = n == length bytes
 has_its_bytes (step.Act conn act.Return bytes) = is_nothing bytes
 has_its_bytes s = true

@@ -8,6 +8,7 @@ use Rattle.cy_event.specs.Limits.{standard}
 use Rattle.cy_event.specs.declared.steps.Act.TheVariants as act
 use Rattle.cy_event.specs.declared.steps.Event.TheVariants as event
 use Rattle.cy_event.specs.declared.steps.Step.{Step}
+use Rattle.cy_event.specs.declared.steps.TheConstants.{GREATEST_READ}
 use Rattle.cy_event.specs.declared.steps.Step.TheVariants as step
 use Rattle.cy_map.specs.declared.rule.Rule.{Rule}
 use Rattle.cy_script.specs.declared.script.Script.{Script}
@@ -99,10 +100,18 @@ came_of conn fields = option_map (λ bytes. step.On conn event.In bytes) (quoted
 abbrev pub write_of : ℕ → List ℕ → Option Step
 write_of conn bytes = if nat_lt (length bytes) (2 ^ 32) then Some (step.Act conn (act.Write (length bytes)) bytes) else None
 
+-- a read of at most so many bytes, where it may ask for as many
+abbrev pub read_of : ℕ → List ℕ → Option Step
+read_of conn fields = do
+  count ← number_field fields
+  if nat_le count.0 GREATEST_READ then alone (step.Act conn (act.Read count.0) []) count.1 else None
+
+-- an act, from the fields behind its connection
 abbrev pub act_of : ℕ → List ℕ → Option Step
 act_of conn fields = do
   act ← word_field fields
-  if bytes_eq act.0 (codes "write") then quoted_field act.1 >>= write_of conn else None
+  if bytes_eq act.0 (codes "write") then quoted_field act.1 >>= write_of conn
+      else if bytes_eq act.0 (codes "read") then read_of conn act.1 else None
 
 -- the step of a line's first word, of a connection, and of the fields behind its number
 abbrev pub step_of_word : List ℕ → ℕ → List ℕ → Option Step

@@ -6,6 +6,7 @@ use Rattle.cy_bytes.specs.Quoting.{IsSpelling}
 use Rattle.cy_event.specs.declared.steps.Act.TheVariants as act
 use Rattle.cy_event.specs.declared.steps.Event.TheVariants as event
 use Rattle.cy_event.specs.declared.steps.Step.{Step}
+use Rattle.cy_event.specs.declared.steps.TheConstants.{GREATEST_READ}
 use Rattle.cy_event.specs.declared.steps.Step.TheVariants as step
 use Rattle.cy_script.specs.declared.statements.Statement.{Statement}
 use Rattle.cy_script.specs.declared.statements.Statement.TheVariants as statement
@@ -64,6 +65,8 @@ IsStepLine line (step.On conn event.End bytes) = HasNumber line (codes "end" ∷
 IsStepLine line (step.On conn (event.Took n) bytes) =
     (taken : List ℕ) × IsNumber taken n × HasNumber line (codes "out" ∷ []) conn (taken ∷ []) × (bytes ≡ [])
 IsStepLine line (step.Run conn) = HasNumber line (codes "run" ∷ []) conn []
+IsStepLine line (step.Act conn (act.Read n) bytes) =
+    (count : List ℕ) × IsNumber count n × HasNumber line (codes "act" ∷ []) conn (codes "read" ∷ count ∷ []) × (n ≤ GREATEST_READ) × (bytes ≡ [])
 IsStepLine line (step.Act conn (act.Write n) bytes) =
     (quoted : List ℕ) × IsQuoted quoted bytes × HasNumber line (codes "act" ∷ []) conn (codes "write" ∷ quoted ∷ []) × (n ≡ length bytes) × (n < 2 ^ 32)
 IsStepLine line (step.Act conn act.Return bytes) = HasNumber line (codes "return" ∷ []) conn [] × (bytes ≡ [])

@@ -2,11 +2,11 @@
 
 ghost use Rattle.std.specs.Prelude.{◌≡◌, []};
 ghost use Rattle.cy_script.specs.Answers.{Reads};
-ghost use Rattle.cy_script.specs.Reading.{act_of, came_of, is_async, is_skipped, rule_line, rule_of_part, set_line, set_of, set_to, statement_of, statement_of_word, step_line, step_of_word, taken_of, write_of};
+ghost use Rattle.cy_script.specs.Reading.{act_of, came_of, is_async, is_skipped, read_of, rule_line, rule_of_part, set_line, set_of, set_to, statement_of, statement_of_word, step_line, step_of_word, taken_of, write_of};
 
 use crate::fault::ScriptFault;
 use crate::fields::{alone, cut_word, number_field, quoted_field, word_field};
-use cy_event::{Act, Bytes, Event, Step};
+use cy_event::{Act, Bytes, Event, GREATEST_READ, Step};
 use cy_map::Rule;
 use cy_settings::{GREATEST_PART, Limit};
 use std::alloc::Global;
@@ -213,9 +213,27 @@ fn act(alloc: Global, conn: u64, fields: &[u8]) -> Result<Step, ScriptFault>
     let (word, rest) = word_field(fields)?;
     if word == b"write".as_slice() {
         write(conn, quoted_field(alloc, rest)?)
+    } else if word == b"read".as_slice() {
+        read(alloc, conn, rest)
     } else {
         Err(ScriptFault::Refused)
     }
+}
+
+/// A read of at most so many bytes, where it may ask for as many.
+fn read(alloc: Global, conn: u64, fields: &[u8]) -> Result<Step, ScriptFault>
+    ensures { Reads (λ step. step) result (read_of conn fields.now) }
+{
+    let (count, rest) = number_field(fields)?;
+    if count > u64::from(GREATEST_READ) {
+        return Err(ScriptFault::Refused);
+    }
+    let step = Step::Act {
+        conn,
+        act: Act::Read(count as u32),
+        bytes: Bytes::of(Vec::new(alloc)),
+    };
+    alone(step, rest)
 }
 
 /// A write of these bytes, where their number fits.

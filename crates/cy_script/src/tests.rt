@@ -58,7 +58,7 @@ fn with_connections(alloc: Global, count: u32) -> Result<Vec<u8>, Fail> {
 
 #[test]
 fn lines_of_the_form_are_read(rt: HostRuntime) -> Result<(), Fail> {
-    let table: [&[u8]; 20] = [
+    let table: [&[u8]; 21] = [
         // lines that say nothing
         b"",
         b"\n\n#\n# in 1 \"\n#admit 1\n",
@@ -80,6 +80,7 @@ fn lines_of_the_form_are_read(rt: HostRuntime) -> Result<(), Fail> {
         b"in 1 \"\"\nin 1 \" # \\\"\\\\\\x00\\xFf\"\n",
         b"out 1 0\nout 1 18446744073709551615\n",
         b"act 1 write \"\"\nact 1 write \"a\"\n",
+        b"act 1 read 0\nact 1 read 65536\n",
         // the last line feed may lack
         b"admit 1",
         b"set maxHeaderCount 5\nadmit 1\nin 1 \"a\"",
@@ -182,7 +183,7 @@ fn settings_and_rules_of_another_form_are_refused(rt: HostRuntime) -> Result<(),
 
 #[test]
 fn steps_of_another_form_are_refused(rt: HostRuntime) -> Result<(), Fail> {
-    let table: [&[u8]; 40] = [
+    let table: [&[u8]; 49] = [
         // words, and what ends a line
         b" ",
         b" # a",
@@ -206,6 +207,15 @@ fn steps_of_another_form_are_refused(rt: HostRuntime) -> Result<(), Fail> {
         b"act 1 write",
         b"act 1 write ",
         b"act 1  write \"\"",
+        b"act 1 read",
+        b"act 1 read ",
+        b"act 1 read 1 ",
+        b"act 1 read 1 1",
+        b"act 1 read \"a\"",
+        b"act 1 read 01",
+        b"act 1 read 65537",
+        b"act 1 read 4294967297",
+        b"act 1 reads 1",
         b"return 1 ",
         // numbers that are none
         b"run 01",
@@ -237,14 +247,13 @@ fn steps_of_another_form_are_refused(rt: HostRuntime) -> Result<(), Fail> {
 
 #[test]
 fn lines_of_a_wider_script_are_refused(rt: HostRuntime) -> Result<(), Fail> {
-    let table: [&[u8]; 9] = [
+    let table: [&[u8]; 8] = [
         b"at 1",
         b"shut 1",
         b"infault 1",
         b"outfault 1",
         b"fail 1",
         b"act 1 flush",
-        b"act 1 read 1",
         b"act 1 start",
         b"call 1 1 complete",
     ];
@@ -302,7 +311,7 @@ fn rules_have_their_parts(rt: HostRuntime) -> Result<(), Fail> {
 fn steps_have_their_bytes(rt: HostRuntime) -> Result<(), Fail> {
     let text = behind_first_line(
         rt.alloc(),
-        b"admit 1\nin 1 \"a\\n\"\nend 1\nout 1 8\nrun 1\nact 1 write \"bcd\"\nreturn 1\n",
+        b"admit 1\nin 1 \"a\\n\"\nend 1\nout 1 8\nrun 1\nact 1 read 9\nact 1 write \"bcd\"\nreturn 1\n",
     )?;
     let script = read_script(rt.alloc(), text.as_slice())?;
     let steps = script.steps.into_vec();
@@ -325,6 +334,11 @@ fn steps_have_their_bytes(rt: HostRuntime) -> Result<(), Fail> {
                 bytes: _,
             },
             Step::Run(1),
+            Step::Act {
+                conn: 1,
+                act: Act::Read(9),
+                bytes: _,
+            },
             Step::Act {
                 conn: 1,
                 act: Act::Write(3),
