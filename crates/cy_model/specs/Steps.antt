@@ -5,6 +5,7 @@ use Rattle.cy_event.specs.declared.steps.Act.{Act}
 use Rattle.cy_event.specs.declared.steps.Act.TheVariants as act
 use Rattle.cy_event.specs.declared.steps.Step.{Step}
 use Rattle.cy_event.specs.declared.steps.Step.TheVariants as step
+use Rattle.cy_event.specs.declared.steps.TheConstants.{GREATEST_READ}
 use Rattle.cy_model.specs.Connections.{moment}
 
 -- no earlier step admits the number
@@ -13,13 +14,9 @@ IsNewNumber c [] = Unit {0}
 IsNewNumber c (step.Admit d ∷ w) = (c ≢ d) × IsNewNumber c w
 IsNewNumber c (s ∷ w) = IsNewNumber c w
 
--- as much content as one read may ask for
-abbrev pub greatest_read : ℕ
-greatest_read = 65536
-
 -- an act counts no more than it may: a read that bound, a write the bytes that stand beside it
 abbrev pub IsWithinBytes : Act → List ℕ → Type 0
-IsWithinBytes (act.Read n) b = n ≤ greatest_read
+IsWithinBytes (act.Read n) b = n ≤ GREATEST_READ
 IsWithinBytes (act.Write n) b = n ≤ length b
 IsWithinBytes act.Return b = Unit {0}
 

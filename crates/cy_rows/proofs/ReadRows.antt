@@ -27,7 +27,8 @@ use Rattle.cy_model.specs.Reads.{Reading, content_read, end_read, nothing_read, 
 use Rattle.cy_model.specs.Reads.{reading_reply}
 use Rattle.cy_model.specs.Replies.{Replied, plain}
 use Rattle.cy_model.specs.Settling.{settled, with_marks}
-use Rattle.cy_model.specs.Steps.{IsWithinBytes, greatest_read}
+use Rattle.cy_event.specs.declared.steps.TheConstants.{GREATEST_READ}
+use Rattle.cy_model.specs.Steps.{IsWithinBytes}
 use Rattle.cy_model.specs.Verdicts.{verdict_of}
 
 -- what these rows unfold
@@ -263,7 +264,7 @@ next_head_waits = refl
 
 -- ---- as much as may be asked for at once
 
-at_most : greatest_read ≡ 65536
+at_most : GREATEST_READ ≡ 65536
 at_most = refl
 
 asks_for_all : IsWithinBytes (act.Read 65536) []
