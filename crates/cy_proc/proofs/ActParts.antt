@@ -39,7 +39,7 @@ use Rattle.cy_proc.specs.ProcessorAnswers.{Answers, Serves, ServesAfter, ended_i
 use Rattle.cy_proc.specs.ProcessorChanges.{after_return, after_write, has_no_room, line_returned, write_reply, write_room}
 use Rattle.cy_proc.specs.Processors.{IsOfRequest, ProcessorParts, RequestFolds, is_open_at, over_charts_at, processor_parts, request_folds, minor_by, table_by, waiting_content, keep_by, uncut}
 use Rattle.cy_proc.proofs.Built.{built_more}
-use Rattle.cy_proc.proofs.Lines.{marks_at, moved_stands, over_stands, plainly, rest_moment, rest_stands}
+use Rattle.cy_proc.proofs.Lines.{holds, marks_at, moved_stands, over_stands, plainly, rest_moment, rest_stands}
 use Rattle.cy_proc.proofs.Requests.{IsOpenBy, head_kept, open_charts, owed_request, rested_same, serves_same, serving_request, stands_request, stands_same}
 
 -- ---- acts
@@ -173,7 +173,7 @@ ended_serves limits m T R l p at finished charts by line =
     let same = rested_same limits m R (plainly R line.sound) in
     record {
       serves = record {
-        line = rest_stands limits m R l by line;
+        line = rest_stands limits m R l by (holds R l line);
         processor = stands_same R (rested limits m R) p same (inl finished);
       };
       charts = ap (map chart_of) (same.charts ∙ charts)

@@ -9,7 +9,7 @@ use Rattle.cy_event.specs.declared.steps.CloseCause.{CloseCause}
 use Rattle.cy_event.specs.declared.steps.CloseCause.TheVariants.{InputEnd, Refused}
 use Rattle.cy_event.specs.Answers.{Answer, error_answer as error_answer_of, fresh_answer}
 use Rattle.cy_event.specs.Charts.{chart_of}
-use Rattle.cy_event.specs.Framings.{bad_request}
+use Rattle.cy_event.specs.Framings.{Framed, bad_request}
 use Rattle.cy_event.specs.Heads.{Head, Front, awaited, found, malformed, head_of}
 use Rattle.cy_event.specs.Targets.{target_of}
 use Rattle.cy_event.specs.RequestHeads.{RequestParts}
@@ -38,7 +38,7 @@ use Rattle.cy_proc.specs.ProcessorChanges.{due_at, due_of_head, line_with, proce
 use Rattle.cy_proc.specs.Processors.{IsIdle, IsOfRequest, IsServiceAlone, ProcessorParts, RequestFolds, StandsForRequest, fresh_processor, is_open_at, request_folds, service_by, stage_by, uncut, waiting_content}
 use Rattle.cy_proc.specs.declared.processor.Stage.TheVariants as stage
 use Rattle.cy_proc.proofs.Built.{IsBuiltDue, built_more, due_built}
-use Rattle.cy_proc.proofs.Lines.{began_stands, marks_at, over_stands, plainly, refused_stands, rest_moment, rest_stands}
+use Rattle.cy_proc.proofs.Lines.{Holds, began_held, holds, marks_by, over_stands, plainly, refused_stands, rest_moment, rest_stands, same_input}
 use Rattle.cy_proc.proofs.Requests.{head_kept, rested_same, stands_idle, stands_same}
 use Rattle.cy_proc.proofs.ActParts.{ended_serves, over_ends}
 
@@ -163,7 +163,7 @@ refusal_taken limits T status to_head l idle none s =
       moved = refl;
       follows = record {
         serves = record {
-          line = rest_stands limits m R (after_refusal status to_head l) (omega arith) stood;
+          line = rest_stands limits m R (after_refusal status to_head l) (omega arith) (holds R (after_refusal status to_head l) stood);
           processor = stands_same R (rested limits m R) q same (inl (refusal_parts limits status to_head T m idle.closed));
         };
         charts = ap (map chart_of) same.charts ∙ sym (append-nil (ended_items T));
@@ -176,11 +176,7 @@ size_bounds limits T r front = front_length-bounds (unread T) r.size (head_of-fo
 
 -- the request isn't one of HEAD
 not_head : (r : TakenUp) → is_unbuilt_request r ≡ false → is_head_method r.head ≡ false
-not_head r built = of_either (is_framed r.framing) (is_head_method r.head) built
-  where
-    of_either : (a b : Bool) → (a || b) ≡ false → b ≡ false
-    of_either true b e = cc
-    of_either false b e = e
+not_head r built = built
 
 -- how its answer begins, with this content
 begins_uncut : (r : TakenUp) (a : Answer) → is_unbuilt_request r ≡ false → record (beginning (asked_of r)) { waiting = a.content } ≡ uncut r.head.minor r.keep a
@@ -201,13 +197,13 @@ begun_alone r T t built = record {
   sending = λ o. begins_uncut r fresh_answer built;
 }
 
-request_taken : (limits : Limits) (T : Trace) (r : TakenUp) (l : LineParts) → r.place ≡ consumed T → front_of limits T ≡ found r.size r.head → is_unbuilt_request r ≡ false → cause_of T ≡ None → Represents T l → Taken limits T (request r) l (after_rest limits (after_begin r.size r.go_on l)) (with_request stage.Owed r (fresh_processor limits))
+request_taken : (limits : Limits) (T : Trace) (r : TakenUp) (l : LineParts) → r.place ≡ consumed T → front_of limits T ≡ found r.size r.head → is_unbuilt_request r ≡ false → cause_of T ≡ None → Represents T l → Taken limits T (request r) l (after_rest limits (after_begin r.size r.framing r.max_trailer r.go_on l)) (with_request stage.Owed r (fresh_processor limits))
 request_taken limits T r l place front built none s =
     let m = l.moment in
     let R : Trace = (m, began r) ∷ T in
     let q : ProcessorParts = with_request stage.Owed r (fresh_processor limits) in
     let bounds = size_bounds limits T r front in
-    let stood = began_stands r T l place bounds.1 built none bounds.0 s in
+    let stood = began_held r T l place bounds.1 built none bounds.0 s in
     let same = rested_same limits m R (plainly R stood.sound) in
     let stands : StandsForRequest R q = inl (record { same = refl; alone = begun_alone r T m built }) in
     record {
@@ -215,37 +211,37 @@ request_taken limits T r l place front built none s =
       moved = refl;
       follows = record {
         serves = record {
-          line = rest_stands limits m R (after_begin r.size r.go_on l) (omega arith) stood;
+          line = rest_stands limits m R (after_begin r.size r.framing r.max_trailer r.go_on l) (omega arith) stood;
           processor = stands_same R (rested limits m R) q same stands;
         };
         charts = ap (map chart_of) same.charts ∙ sym (append-nil (ended_items T));
       };
     }
 
-error_mark : (T : Trace) (l : LineParts) → Represents T l → Represents ((l.moment, error_answer not_found_status) ∷ T) l
-error_mark T l s = record {
+error_mark : (T : Trace) (l : LineParts) → Holds T l → Holds ((l.moment, error_answer not_found_status) ∷ T) l
+error_mark T l s = let i = s.sound.input in record {
   same = s.same;
   sound = record {
-    heads_came = s.sound.heads_came;
+    input = same_input T ((l.moment, error_answer not_found_status) ∷ T) i i.given i.heads_came i.told;
     took_past = s.sound.took_past;
     built = built_more l.moment (error_answer not_found_status) T refl s.sound.built;
     calm = s.sound.calm;
   };
-  none_later = marks_at (error_answer not_found_status ∷ []) T l s;
+  none_later = marks_by l.moment l.moment (error_answer not_found_status ∷ []) T (omega arith) s.none_later;
 }
 
-not_found_taken : (limits : Limits) (T : Trace) (r : TakenUp) (l : LineParts) → r.place ≡ consumed T → front_of limits T ≡ found r.size r.head → is_unbuilt_request r ≡ false → cause_of T ≡ None → Represents T l → Taken limits T (not_found r) l (after_rest limits (after_end_of r.keep r.head.minor (error_answer_of not_found_status) (after_begin r.size r.go_on l))) (with_request stage.Over r (fresh_processor limits))
+not_found_taken : (limits : Limits) (T : Trace) (r : TakenUp) (l : LineParts) → r.place ≡ consumed T → front_of limits T ≡ found r.size r.head → is_unbuilt_request r ≡ false → cause_of T ≡ None → Represents T l → Taken limits T (not_found r) l (after_rest limits (after_end_of r.keep r.head.minor (error_answer_of not_found_status) (after_begin r.size r.framing r.max_trailer r.go_on l))) (with_request stage.Over r (fresh_processor limits))
 not_found_taken limits T r l place front built none s =
     let m = l.moment in
     let a = error_answer_of not_found_status in
     let S : Trace = (m, error_answer not_found_status) ∷ (m, began r) ∷ T in
     let R : Trace = with_marks m (over ∷ last_answer_marks r.keep) S in
     let q : ProcessorParts = with_request stage.Over r (fresh_processor limits) in
-    let k : LineParts = after_begin r.size r.go_on l in
+    let k : LineParts = after_begin r.size r.framing r.max_trailer r.go_on l in
     let bounds = size_bounds limits T r front in
-    let begun : Represents S k = error_mark ((m, began r) ∷ T) k (began_stands r T l place bounds.1 built none bounds.0 s) in
+    let begun : Holds S k = error_mark ((m, began r) ∷ T) k (began_held r T l place bounds.1 built none bounds.0 s) in
     let line : Represents R (after_end_of r.keep r.head.minor a k) =
-    over_stands S k r.head.minor r.keep a (begins_uncut r a built) refl refl refl none begun in
+    over_stands S k r.head.minor r.keep a refl (begins_uncut r a built) refl refl refl none begun in
     let ends = over_ends m r.keep S in
     let stands : IsOfRequest (request_folds R) q =
     subst (λ (f : RequestFolds). IsOfRequest f q) (sym ends.folds) (record {
@@ -303,8 +299,7 @@ open_takes limits rules T l taken new p q free due s begun held rests =
     let place = consumed T in
     let at_trace : due_at limits rules l ≡ d = ap (λ (k : LineParts). due_at limits rules k) s.line.same in
     let due_trace : (may_begin T && not (is_awaited (front_of limits T))) ≡ true =
-    ap (λ (v : Bool). may_begin_by (is_open T) (cause_of T) v (unsent T) && not (is_awaited (front_of limits T))) (has_whole T (plainly T s.line.sound))
-    ∙ ap (λ (k : LineParts). is_due limits k) (sym s.line.same) ∙ due in
+    ap (λ (k : LineParts). is_due limits k) (sym s.line.same) ∙ due in
     let tests = and_parts (may_begin T) (not (is_awaited (front_of limits T))) due_trace in
     let free_now = may_begin-parts T tests.0 in
     let idle : IsIdle (request_folds T) = stands_idle T p (ap (λ (k : ProcessorParts). is_open_at k.stage) free) s.processor in
