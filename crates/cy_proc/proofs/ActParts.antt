@@ -30,7 +30,7 @@ use Rattle.cy_model.specs.Replies.{plain, replied_in}
 use Rattle.cy_states.specs.Progress.{Progress, after_call, progress_of}
 use Rattle.cy_model.specs.Settling.{last_answer_marks, rested, with_marks}
 use Rattle.cy_model.proofs.Built.{mark_plain, plain_end}
-use Rattle.cy_proc.proofs.Plain.{finish_closes, put_is, rested_open}
+use Rattle.cy_proc.proofs.Plain.{finish_closes, put_is}
 use Rattle.cy_proc.specs.Lines.{IsSound, LineParts, Represents, line_parts}
 use Rattle.cy_proc.specs.declared.processor.Stage.{Stage}
 use Rattle.cy_proc.specs.declared.processor.Stage.TheVariants as stage
@@ -39,27 +39,33 @@ use Rattle.cy_proc.specs.ProcessorAnswers.{Answers, Serves, ServesAfter, ended_i
 use Rattle.cy_proc.specs.ProcessorChanges.{after_return, after_write, has_no_room, line_returned, write_reply, write_room}
 use Rattle.cy_proc.specs.Processors.{IsOfRequest, ProcessorParts, RequestFolds, is_open_at, over_charts_at, processor_parts, request_folds, minor_by, table_by, waiting_content, keep_by, uncut}
 use Rattle.cy_proc.proofs.Built.{built_more}
-use Rattle.cy_proc.proofs.Lines.{holds, marks_at, moved_stands, over_stands, plainly, rest_moment, rest_stands}
+use Rattle.cy_proc.proofs.Lines.{Holds, holds, marks_at, moved_stands, over_stands, plainly, rest_moment, rest_stands, rested_open, same_input}
 use Rattle.cy_proc.proofs.Requests.{IsOpenBy, head_kept, open_charts, owed_request, rested_same, serves_same, serving_request, stands_request, stands_same}
 
 -- ---- acts
 
 -- content that fits waits, and nothing is written
-put_waits : (T : Trace) (t : ℕ) (b : List ℕ) (p : ProcessorParts) → IsSound T → is_open T ≡ true → IsOfRequest (request_folds T) p → length (answer_of T).content + length b ≤ 8192
+put_waits : (T : Trace) (t : ℕ) (b : List ℕ) (p : ProcessorParts) → cause_of T ≡ None → is_open T ≡ true → IsOfRequest (request_folds T) p → length (answer_of T).content + length b ≤ 8192
     → answering_of ((t, put b) ∷ T) ≡ record (answering_of T) { sending = with_bytes b (sending_of T) }
-put_waits T t b p sound o s fits =
-    let none = sound.calm o in
+put_waits T t b p none o s fits =
     let waits : length (sending_of T).waiting ≡ length (answer_of T).content = ap (λ (x : Sending). length x.waiting) (s.alone.sending o) in
     ap (λ (c : Option CloseCause). put_by c (answer_of T) t b (answering_of T)) none
     ∙ put_is (answer_of T) t b (answering_of T) (omega (arith, waits, fits))
 
-put_mark : (b : List ℕ) (T : Trace) (l : LineParts) (p : ProcessorParts) → is_open T ≡ true → IsOfRequest (request_folds T) p → length (answer_of T).content + length b ≤ 8192 → Represents T l → Represents ((l.moment, put b) ∷ T) l
-put_mark b T l p o r fits s =
-    let waits = put_waits T l.moment b p s.sound o r fits in
+put_mark : (b : List ℕ) (T : Trace) (l : LineParts) (p : ProcessorParts) → cause_of T ≡ None → is_open T ≡ true → IsOfRequest (request_folds T) p → length (answer_of T).content + length b ≤ 8192 → Represents T l → Represents ((l.moment, put b) ∷ T) l
+put_mark b T l p none o r fits s =
+    let waits = put_waits T l.moment b p none o r fits in
+    let i = s.sound.input in
     record {
       same = s.same ∙ ap (λ (u : List ℕ). record (line_parts l.moment T) { unsent = u }) (sym (ap (λ (a : Answering). a.output) waits));
-      sound = record { heads_came = s.sound.heads_came; took_past = s.sound.took_past; built = built_more l.moment (put b) T refl s.sound.built; calm = s.sound.calm };
+      sound = record {
+        input = same_input T ((l.moment, put b) ∷ T) i i.given i.heads_came i.told;
+        took_past = s.sound.took_past;
+        built = built_more l.moment (put b) T refl s.sound.built;
+        calm = s.sound.calm;
+      };
       none_later = marks_at (put b ∷ []) T l s;
+      at_rest = λ o calm. let rest = s.at_rest o calm in record { good = rest.good; goes_on = rest.goes_on };
     }
 
 -- what is put waits behind what waits
@@ -67,11 +73,11 @@ waits_more : (o : Bool) (a : Answer) (b : List ℕ) → o ≡ true → waiting_c
 waits_more true a b e = refl
 waits_more false a b e = cc
 
-put_parts : (T : Trace) (t : ℕ) (b : List ℕ) (p : ProcessorParts) → IsSound T → is_open T ≡ true → length (answer_of T).content + length b ≤ 8192 → IsOfRequest (request_folds T) p → IsOfRequest (request_folds ((t, put b) ∷ T)) (record p { content = p.content ++ b })
-put_parts T t b p sound o fits s =
+put_parts : (T : Trace) (t : ℕ) (b : List ℕ) (p : ProcessorParts) → cause_of T ≡ None → is_open T ≡ true → length (answer_of T).content + length b ≤ 8192 → IsOfRequest (request_folds T) p → IsOfRequest (request_folds ((t, put b) ∷ T)) (record p { content = p.content ++ b })
+put_parts T t b p none o fits s =
     let f = request_folds T in
     let R : Trace = (t, put b) ∷ T in
-    let waits = put_waits T t b p sound o s fits in
+    let waits = put_waits T t b p none o s fits in
     record {
       same = ap (λ (q : ProcessorParts). record q { content = q.content ++ b }) s.same
           ∙ ap (λ (x : List ℕ). record (processor_parts p.limits f) { content = x }) (waits_more (is_open T) (answer_of T) b o);
@@ -88,14 +94,14 @@ put_parts T t b p sound o fits s =
       };
     }
 
-put_stands : (limits : Limits) (b : List ℕ) (T : Trace) (l : LineParts) (p : ProcessorParts) → is_open_at p.stage ≡ true → is_open T ≡ true → length (answer_of T).content + length b ≤ 8192 → IsOfRequest (request_folds T) p → Represents T l → ServesAfter T (rested limits l.moment ((l.moment, put b) ∷ T)) l (record p { content = p.content ++ b })
-put_stands limits b T l p at o fits s line =
+put_stands : (limits : Limits) (b : List ℕ) (T : Trace) (l : LineParts) (p : ProcessorParts) → is_open_at p.stage ≡ true → cause_of T ≡ None → is_open T ≡ true → length (answer_of T).content + length b ≤ 8192 → IsOfRequest (request_folds T) p → Represents T l → ServesAfter T (rested limits l.moment ((l.moment, put b) ∷ T)) l (record p { content = p.content ++ b })
+put_stands limits b T l p at none o fits s line =
     let m = l.moment in
     let R : Trace = (m, put b) ∷ T in
     let q : ProcessorParts = record p { content = p.content ++ b } in
-    let now = mark_plain m T (plainly T line.sound) (put b) refl in
-    subst (λ (S : Trace). ServesAfter T S l q) (sym (rested_open limits m R now o)) (record {
-      serves = record { line = put_mark b T l p o s fits line; processor = inl (put_parts T m b p line.sound o fits s) };
+    let marked = put_mark b T l p none o s fits line in
+    subst (λ (S : Trace). ServesAfter T S l q) (sym (rested_open limits m R l marked o)) (record {
+      serves = record { line = marked; processor = inl (put_parts T m b p none o fits s) };
       charts = sym (append-nil (ended_items T)) ∙ ap (λ (x : List (List ChartItem)). ended_items T ++ x) (sym (open_charts p.stage p.progress at));
     })
 
@@ -114,6 +120,10 @@ room_fits : (a : Answer) (p : ProcessorParts) (n : ℕ) (b : List ℕ) → lengt
     → length a.content + length (take (write_room p n) b) ≤ 8192
 room_fits a p n b few is =
     omega (arith, few, ap (λ (x : Answer). length x.content) is, length-take (write_room p n) b)
+
+no_cause_of : (o : Option CloseCause) → is_some o ≡ false → o ≡ None
+no_cause_of None e = refl
+no_cause_of (Some k) e = cc
 
 -- a reply to a write hands over no bytes
 write_plain : (p : ProcessorParts) (n : ℕ) (into : List ℕ) → replied_in (write_reply p n) into ≡ plain (write_reply p n)
@@ -148,7 +158,7 @@ write_answers limits at n b given into T old new p q r at_stage no_cause within 
     let follows : (v : Bool) → ServesAfter T (rested_act limits m T (if v then None else Some (put (take (write_room p n) b) ∷ []))) new (if v then p else record p { content = p.content ++ take (write_room p n) b }) = λ v.
     elim v as (λ u. ServesAfter T (rested_act limits m T (if u then None else Some (put (take (write_room p n) b) ∷ []))) new (if u then p else record p { content = p.content ++ take (write_room p n) b })) [
       | true ↦ serves_same T T new p (ap is_open_at at_stage) (record { folds = refl; charts = refl }) s.processor line
-      | false ↦ put_stands limits (take (write_room p n) b) T new p (ap is_open_at at_stage) here.is_open
+      | false ↦ put_stands limits (take (write_room p n) b) T new p (ap is_open_at at_stage) (no_cause_of (cause_of T) cause) here.is_open
           (room_fits (answer_of T) p n b (stands.alone.few here.is_open) answer) stands line
     ] in
     record {
@@ -183,11 +193,11 @@ ended_serves limits m T R l p at finished charts by line =
     }
 
 -- the service returns
-returned_line : (T : Trace) (l : LineParts) → Represents T l → Represents ((l.moment, called call.Return None) ∷ (l.moment, back) ∷ T) l
-returned_line T l s = record {
+returned_line : (T : Trace) (l : LineParts) → Represents T l → Holds ((l.moment, called call.Return None) ∷ (l.moment, back) ∷ T) l
+returned_line T l s = let i = s.sound.input in record {
   same = s.same;
   sound = record {
-    heads_came = s.sound.heads_came;
+    input = same_input T ((l.moment, called call.Return None) ∷ (l.moment, back) ∷ T) i i.given i.heads_came i.told;
     took_past = s.sound.took_past;
     built = built_more l.moment (called call.Return None) ((l.moment, back) ∷ T) refl (built_more l.moment back T refl s.sound.built);
     calm = s.sound.calm;
