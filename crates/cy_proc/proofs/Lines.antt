@@ -11,7 +11,7 @@ use Rattle.cy_event.specs.declared.steps.Event.TheVariants as event
 use Rattle.cy_event.specs.declared.steps.Reply.{Reply}
 use Rattle.cy_event.specs.declared.steps.Reply.TheVariants as reply
 use Rattle.cy_model.specs.Entries.{event_marks, event_reply, is_closed_by, is_closed_to, rested_event, sent_of}
-use Rattle.cy_event.specs.AnswerModes.{has_no_content}
+use Rattle.cy_event.specs.AnswerModes.{connection_of, counted, has_no_content}
 use Rattle.cy_model.specs.Folds.{bytes_of, cause_of, earlier, has_ended, is_broken, is_open, last_taken}
 use Rattle.cy_model.specs.Endings.{is_bad_request}
 use Rattle.cy_model.specs.Inputs.{consumed, given_count, has_bad_body, has_whole_body, head_end, is_end_told, room, scan_of, unread, used, used_at_end}
@@ -399,4 +399,46 @@ over_stands T l minor keep a o sent_so is content unset none s =
       sound = over_sound keep T m s.sound;
       none_later = marks_by m m (over ∷ last_answer_marks keep) T (omega arith) s.none_later;
       at_rest = λ still. absurd (both (is_open R) still (over_closed keep T m));
+    })
+
+-- one whose body was none: there is a cause already, which stays
+never_kept : (keep : Bool) → false ≡ (keep && false)
+never_kept true = refl
+never_kept false = refl
+
+bad_unsent : (T : Trace) (m minor : ℕ) (keep : Bool) (a : Answer) (k : CloseCause) → IsPlain T → sending_of T ≡ uncut minor keep a → answer_of T ≡ a → has_no_content a.status ≡ false → a.set_length ≡ None → cause_of T ≡ Some k
+    → unsent ((m, over) ∷ T) ≡ unsent T ++ answer_text a m (connection_by keep (Some k) minor)
+bad_unsent T m minor keep a k p sent_so is content unset has =
+    let silent = plain_silent T p in
+    (λ i. (end_by (has i) (silent i) (is i) m (record { sending = sent_so i; output = unsent T })).output)
+    ∙ finish_text a m minor false (unsent T) content unset
+    ∙ ap (λ (v : Bool). unsent T ++ answer_text a m (connection_of (record { minor = minor; is_head = false; keep = v }) counted)) (never_kept keep)
+
+bad_parts : (keep : Bool) (T : Trace) (m minor : ℕ) (a : Answer) (k : CloseCause) → IsSound T → is_open T ≡ true → sending_of T ≡ uncut minor keep a → answer_of T ≡ a → has_no_content a.status ≡ false → a.set_length ≡ None → cause_of T ≡ Some k
+    → after_end_of keep minor a (line_parts m T) ≡ line_parts m ((m, over) ∷ T)
+bad_parts keep T m minor a k s o sent_so is content unset has =
+    let O : Trace = (m, over) ∷ T in
+    let L : LineParts = line_parts m T in
+    let text = sym (bad_unsent T m minor keep a k (plainly T s) sent_so is content unset has) in
+    let answered : LineParts = record L {
+      unsent = unsent T ++ answer_text a m (connection_by keep (cause_of T) minor);
+      is_open = false;
+      cause = cause_after keep (cause_of T);
+    } in
+    over_line m T o answered refl refl
+    ∙ (λ i. record L { body = intake_of O; unread = unread O; unsent = unsent T ++ answer_text a m (connection_by keep (has i) minor); is_open = false; cause = cause_after keep (has i) })
+    ∙ (λ i. record L { body = intake_of O; unread = unread O; unsent = text i; is_open = false; cause = Some k })
+    ∙ ap (λ (c : Option CloseCause). record (line_parts m O) { cause = c }) (sym has)
+
+pub bad_stands : (T : Trace) (l : LineParts) (minor : ℕ) (keep : Bool) (a : Answer) (k : CloseCause) → is_open T ≡ true → sending_of T ≡ uncut minor keep a → answer_of T ≡ a → has_no_content a.status ≡ false → a.set_length ≡ None → cause_of T ≡ Some k → Holds T l
+    → Represents ((l.moment, over) ∷ T) (after_end_of keep minor a l)
+bad_stands T l minor keep a k o sent_so is content unset has s =
+    let m = l.moment in
+    let R : Trace = (m, over) ∷ T in
+    at_held T l (λ x. Represents R (after_end_of keep minor a x)) s
+    (λ own. record {
+      same = bad_parts keep T m minor a k s.sound o sent_so is content unset has;
+      sound = over_sound true T m s.sound;
+      none_later = marks_by m m (over ∷ []) T (omega arith) s.none_later;
+      at_rest = λ still. absurd (both (is_open R) still refl);
     })
