@@ -14,52 +14,59 @@ use Rattle.cy_event.specs.declared.steps.Reply.TheVariants as reply
 use Rattle.cy_event.specs.declared.table.ChartItem.{ChartItem}
 use Rattle.cy_event.specs.declared.steps.State.{State}
 use Rattle.cy_event.specs.declared.steps.State.TheVariants as state
-use Rattle.cy_event.specs.Answers.{Answer, after_put, fresh_answer}
+use Rattle.cy_event.specs.Answers.{Answer, after_put, error_answer as error_answer_of, fresh_answer}
+use Rattle.cy_event.specs.Framings.{bad_request}
 use Rattle.cy_event.specs.Charts.{chart_of}
 use Rattle.cy_event.specs.Heads.{Head}
 use Rattle.cy_event.specs.Targets.{target_of}
 use Rattle.cy_head.specs.Answers.{just_read}
 use Rattle.cy_event.specs.Table.{next_state, row, is_end, state_after}
 use Rattle.cy_model.specs.Entries.{act_marks, act_reply, callback_reply, is_full, open_act_marks, open_act_reply, rested_act, rested_callback, return_marks, write_takes, end_marks_where}
-use Rattle.cy_event.specs.Answering.{Answering, Sending, has_closed, with_bytes}
-use Rattle.cy_model.specs.Endings.{cause_behind, cause_marks, end_marks, ends_closed}
+use Rattle.cy_event.specs.Answering.{Answering, Sending, has_closed, with_bytes, with_error}
+use Rattle.cy_model.specs.Endings.{cause_behind, cause_marks, closing_marks_by, end_marks, ends_closed, is_bad_request}
 use Rattle.cy_model.specs.Folds.{calls, cause_of, ended_charts, is_open, part_of, request_of, running, state_of}
-use Rattle.cy_model.specs.Outputs.{answer_of, answering_of, end_by, put_by, sending_of, unsent}
-use Rattle.cy_model.specs.Marks.{Mark, TakenUp, called, back, put, over, Trace}
+use Rattle.cy_model.specs.Outputs.{answer_of, answering_of, end_by, is_committed, put_by, sending_of, unsent}
+use Rattle.cy_model.specs.Marks.{Mark, TakenUp, called, back, put, error_answer, over, Trace}
 use Rattle.cy_model.specs.Replies.{plain, replied_in}
 use Rattle.cy_states.specs.Progress.{Progress, after_call, progress_of}
 use Rattle.cy_model.specs.Settling.{last_answer_marks, rested, with_marks}
-use Rattle.cy_model.proofs.Built.{mark_plain, plain_end}
-use Rattle.cy_proc.proofs.Plain.{finish_closes, put_is, rested_open}
-use Rattle.cy_proc.specs.Lines.{IsSound, LineParts, Represents, line_parts}
+use Rattle.cy_model.proofs.Built.{error_before, plain_end}
+use Rattle.cy_proc.proofs.Plain.{finish_closes, put_is}
+use Rattle.cy_proc.specs.Lines.{IsSound, LineParts, Represents, is_body_cause, line_parts}
 use Rattle.cy_proc.specs.declared.processor.Stage.{Stage}
 use Rattle.cy_proc.specs.declared.processor.Stage.TheVariants as stage
 use Rattle.cy_proc.specs.LineChanges.{after_end_of, after_rest, at_moment}
 use Rattle.cy_proc.specs.ProcessorAnswers.{Answers, Serves, ServesAfter, ended_items}
-use Rattle.cy_proc.specs.ProcessorChanges.{after_return, after_write, has_no_room, line_returned, write_reply, write_room}
+use Rattle.cy_proc.specs.ProcessorChanges.{after_return, answer_at, answer_returned, after_write, has_no_room, line_returned, write_reply, write_room}
 use Rattle.cy_proc.specs.Processors.{IsOfRequest, ProcessorParts, RequestFolds, is_open_at, over_charts_at, processor_parts, request_folds, minor_by, table_by, waiting_content, keep_by, uncut}
 use Rattle.cy_proc.proofs.Built.{built_more}
-use Rattle.cy_proc.proofs.Lines.{marks_at, moved_stands, over_stands, plainly, rest_moment, rest_stands}
+use Rattle.cy_proc.proofs.Lines.{Holds, bad_stands, holds, marks_at, marks_by, moved_stands, over_stands, plainly, rest_moment, rest_stands, rested_open, same_input}
 use Rattle.cy_proc.proofs.Requests.{IsOpenBy, head_kept, open_charts, owed_request, rested_same, serves_same, serving_request, stands_request, stands_same}
 
 -- ---- acts
 
 -- content that fits waits, and nothing is written
-put_waits : (T : Trace) (t : ℕ) (b : List ℕ) (p : ProcessorParts) → IsSound T → is_open T ≡ true → IsOfRequest (request_folds T) p → length (answer_of T).content + length b ≤ 8192
+put_waits : (T : Trace) (t : ℕ) (b : List ℕ) (p : ProcessorParts) → cause_of T ≡ None → is_open T ≡ true → IsOfRequest (request_folds T) p → length (answer_of T).content + length b ≤ 8192
     → answering_of ((t, put b) ∷ T) ≡ record (answering_of T) { sending = with_bytes b (sending_of T) }
-put_waits T t b p sound o s fits =
-    let none = sound.calm o in
+put_waits T t b p none o s fits =
     let waits : length (sending_of T).waiting ≡ length (answer_of T).content = ap (λ (x : Sending). length x.waiting) (s.alone.sending o) in
     ap (λ (c : Option CloseCause). put_by c (answer_of T) t b (answering_of T)) none
     ∙ put_is (answer_of T) t b (answering_of T) (omega (arith, waits, fits))
 
-put_mark : (b : List ℕ) (T : Trace) (l : LineParts) (p : ProcessorParts) → is_open T ≡ true → IsOfRequest (request_folds T) p → length (answer_of T).content + length b ≤ 8192 → Represents T l → Represents ((l.moment, put b) ∷ T) l
-put_mark b T l p o r fits s =
-    let waits = put_waits T l.moment b p s.sound o r fits in
+put_mark : (b : List ℕ) (T : Trace) (l : LineParts) (p : ProcessorParts) → cause_of T ≡ None → is_open T ≡ true → IsOfRequest (request_folds T) p → length (answer_of T).content + length b ≤ 8192 → Represents T l → Represents ((l.moment, put b) ∷ T) l
+put_mark b T l p none o r fits s =
+    let waits = put_waits T l.moment b p none o r fits in
+    let i = s.sound.input in
     record {
       same = s.same ∙ ap (λ (u : List ℕ). record (line_parts l.moment T) { unsent = u }) (sym (ap (λ (a : Answering). a.output) waits));
-      sound = record { heads_came = s.sound.heads_came; took_past = s.sound.took_past; built = built_more l.moment (put b) T refl s.sound.built; calm = s.sound.calm };
+      sound = record {
+        input = same_input T ((l.moment, put b) ∷ T) i i.given i.heads_came i.told;
+        took_past = s.sound.took_past;
+        built = built_more l.moment (put b) T refl s.sound.built;
+        calm = s.sound.calm;
+      };
       none_later = marks_at (put b ∷ []) T l s;
+      at_rest = λ o calm. let rest = s.at_rest o calm in record { good = rest.good; goes_on = rest.goes_on };
     }
 
 -- what is put waits behind what waits
@@ -67,11 +74,11 @@ waits_more : (o : Bool) (a : Answer) (b : List ℕ) → o ≡ true → waiting_c
 waits_more true a b e = refl
 waits_more false a b e = cc
 
-put_parts : (T : Trace) (t : ℕ) (b : List ℕ) (p : ProcessorParts) → IsSound T → is_open T ≡ true → length (answer_of T).content + length b ≤ 8192 → IsOfRequest (request_folds T) p → IsOfRequest (request_folds ((t, put b) ∷ T)) (record p { content = p.content ++ b })
-put_parts T t b p sound o fits s =
+put_parts : (T : Trace) (t : ℕ) (b : List ℕ) (p : ProcessorParts) → cause_of T ≡ None → is_open T ≡ true → length (answer_of T).content + length b ≤ 8192 → IsOfRequest (request_folds T) p → IsOfRequest (request_folds ((t, put b) ∷ T)) (record p { content = p.content ++ b })
+put_parts T t b p none o fits s =
     let f = request_folds T in
     let R : Trace = (t, put b) ∷ T in
-    let waits = put_waits T t b p sound o s fits in
+    let waits = put_waits T t b p none o s fits in
     record {
       same = ap (λ (q : ProcessorParts). record q { content = q.content ++ b }) s.same
           ∙ ap (λ (x : List ℕ). record (processor_parts p.limits f) { content = x }) (waits_more (is_open T) (answer_of T) b o);
@@ -88,14 +95,14 @@ put_parts T t b p sound o fits s =
       };
     }
 
-put_stands : (limits : Limits) (b : List ℕ) (T : Trace) (l : LineParts) (p : ProcessorParts) → is_open_at p.stage ≡ true → is_open T ≡ true → length (answer_of T).content + length b ≤ 8192 → IsOfRequest (request_folds T) p → Represents T l → ServesAfter T (rested limits l.moment ((l.moment, put b) ∷ T)) l (record p { content = p.content ++ b })
-put_stands limits b T l p at o fits s line =
+put_stands : (limits : Limits) (b : List ℕ) (T : Trace) (l : LineParts) (p : ProcessorParts) → is_open_at p.stage ≡ true → cause_of T ≡ None → is_open T ≡ true → length (answer_of T).content + length b ≤ 8192 → IsOfRequest (request_folds T) p → Represents T l → ServesAfter T (rested limits l.moment ((l.moment, put b) ∷ T)) l (record p { content = p.content ++ b })
+put_stands limits b T l p at none o fits s line =
     let m = l.moment in
     let R : Trace = (m, put b) ∷ T in
     let q : ProcessorParts = record p { content = p.content ++ b } in
-    let now = mark_plain m T (plainly T line.sound) (put b) refl in
-    subst (λ (S : Trace). ServesAfter T S l q) (sym (rested_open limits m R now o)) (record {
-      serves = record { line = put_mark b T l p o s fits line; processor = inl (put_parts T m b p line.sound o fits s) };
+    let marked = put_mark b T l p none o s fits line in
+    subst (λ (S : Trace). ServesAfter T S l q) (sym (rested_open limits m R l marked o)) (record {
+      serves = record { line = marked; processor = inl (put_parts T m b p none o fits s) };
       charts = sym (append-nil (ended_items T)) ∙ ap (λ (x : List (List ChartItem)). ended_items T ++ x) (sym (open_charts p.stage p.progress at));
     })
 
@@ -114,6 +121,10 @@ room_fits : (a : Answer) (p : ProcessorParts) (n : ℕ) (b : List ℕ) → lengt
     → length a.content + length (take (write_room p n) b) ≤ 8192
 room_fits a p n b few is =
     omega (arith, few, ap (λ (x : Answer). length x.content) is, length-take (write_room p n) b)
+
+no_cause_of : (o : Option CloseCause) → is_some o ≡ false → o ≡ None
+no_cause_of None e = refl
+no_cause_of (Some k) e = cc
 
 -- a reply to a write hands over no bytes
 write_plain : (p : ProcessorParts) (n : ℕ) (into : List ℕ) → replied_in (write_reply p n) into ≡ plain (write_reply p n)
@@ -148,7 +159,7 @@ write_answers limits at n b given into T old new p q r at_stage no_cause within 
     let follows : (v : Bool) → ServesAfter T (rested_act limits m T (if v then None else Some (put (take (write_room p n) b) ∷ []))) new (if v then p else record p { content = p.content ++ take (write_room p n) b }) = λ v.
     elim v as (λ u. ServesAfter T (rested_act limits m T (if u then None else Some (put (take (write_room p n) b) ∷ []))) new (if u then p else record p { content = p.content ++ take (write_room p n) b })) [
       | true ↦ serves_same T T new p (ap is_open_at at_stage) (record { folds = refl; charts = refl }) s.processor line
-      | false ↦ put_stands limits (take (write_room p n) b) T new p (ap is_open_at at_stage) here.is_open
+      | false ↦ put_stands limits (take (write_room p n) b) T new p (ap is_open_at at_stage) (no_cause_of (cause_of T) cause) here.is_open
           (room_fits (answer_of T) p n b (stands.alone.few here.is_open) answer) stands line
     ] in
     record {
@@ -173,7 +184,7 @@ ended_serves limits m T R l p at finished charts by line =
     let same = rested_same limits m R (plainly R line.sound) in
     record {
       serves = record {
-        line = rest_stands limits m R l by line;
+        line = rest_stands limits m R l by (holds R l line);
         processor = stands_same R (rested limits m R) p same (inl finished);
       };
       charts = ap (map chart_of) (same.charts ∙ charts)
@@ -183,11 +194,11 @@ ended_serves limits m T R l p at finished charts by line =
     }
 
 -- the service returns
-returned_line : (T : Trace) (l : LineParts) → Represents T l → Represents ((l.moment, called call.Return None) ∷ (l.moment, back) ∷ T) l
-returned_line T l s = record {
+returned_line : (T : Trace) (l : LineParts) → Represents T l → Holds ((l.moment, called call.Return None) ∷ (l.moment, back) ∷ T) l
+returned_line T l s = let i = s.sound.input in record {
   same = s.same;
   sound = record {
-    heads_came = s.sound.heads_came;
+    input = same_input T ((l.moment, called call.Return None) ∷ (l.moment, back) ∷ T) i i.given i.heads_came i.told;
     took_past = s.sound.took_past;
     built = built_more l.moment (called call.Return None) ((l.moment, back) ∷ T) refl (built_more l.moment back T refl s.sound.built);
     calm = s.sound.calm;
@@ -200,16 +211,16 @@ table_minor : (taken : Option TakenUp) → (table_by taken).head.minor ≡ minor
 table_minor None = refl
 table_minor (Some r) = ap (λ (h : Head). h.minor) (head_kept (target_of r.head.method r.head.target) (just_read r.head))
 
--- what a return leaves of the last request
-abbrev returned : Sending → RequestFolds → RequestFolds
-returned rest f = record f { calls = f.calls ++ call.Return ∷ []; state = next_state f.state call.Return; running = None; is_open = false; sending = rest }
+-- what a return leaves of the last request, of which this is the answer
+abbrev returned : Answer → Sending → RequestFolds → RequestFolds
+returned a rest f = record f { calls = f.calls ++ call.Return ∷ []; state = next_state f.state call.Return; running = None; is_open = false; answer = a; sending = rest }
 
-returned_parts : (rest : Sending) (f : RequestFolds) (p : ProcessorParts) → IsOpenBy f true → IsOfRequest f p → IsOfRequest (returned rest f) (after_return p)
-returned_parts rest f p here s =
+returned_parts : (a : Answer) (rest : Sending) (f : RequestFolds) (p : ProcessorParts) → IsOpenBy f true → IsOfRequest f p → IsOfRequest (returned a rest f) (after_return p)
+returned_parts a rest f p here s =
     let progress : after_call (progress_of f.calls) call.Return ≡ progress_of (f.calls ++ call.Return ∷ []) =
     ap (λ (ks : List Call). after_call (progress_of ks) call.Return) here.calls
     ∙ sym (ap (λ (ks : List Call). progress_of (ks ++ call.Return ∷ [])) here.calls) in
-    let parts = processor_parts p.limits (returned rest f) in
+    let parts = processor_parts p.limits (returned a rest f) in
     record {
       same = ap after_return s.same
           ∙ ap (λ (w : Progress). record parts { stage = stage.Over; progress = w }) progress
@@ -228,18 +239,31 @@ returned_parts rest f p here s =
     }
 
 -- what an answer says of the request is what its processor keeps
-line_of : (f : RequestFolds) (p : ProcessorParts) (l : LineParts) → f.is_open ≡ true → IsOfRequest f p → line_returned p l ≡ after_end_of f.keep f.minor f.answer l
-line_of f p l o s =
-    ap (λ (v : Bool). after_end_of v p.table.head.minor (after_put p.content fresh_answer) l) (ap (λ (q : ProcessorParts). q.keep) s.same)
-    ∙ ap (λ (n : ℕ). after_end_of f.keep n (after_put p.content fresh_answer) l)
-    (ap (λ (q : ProcessorParts). q.table.head.minor) s.same ∙ table_minor f.taken ∙ sym s.alone.minor)
+line_so : (a : Answer) (f : RequestFolds) (p : ProcessorParts) (l : LineParts) → IsOfRequest f p → after_end_of p.keep p.table.head.minor a l ≡ after_end_of f.keep f.minor a l
+line_so a f p l s =
+    ap (λ (v : Bool). after_end_of v p.table.head.minor a l) (ap (λ (q : ProcessorParts). q.keep) s.same)
+    ∙ ap (λ (n : ℕ). after_end_of f.keep n a l) (ap (λ (q : ProcessorParts). q.table.head.minor) s.same ∙ table_minor f.taken ∙ sym s.alone.minor)
+
+line_of : (f : RequestFolds) (p : ProcessorParts) (l : LineParts) → l.cause ≡ None → f.is_open ≡ true → IsOfRequest f p → line_returned p l ≡ after_end_of f.keep f.minor f.answer l
+line_of f p l none o s =
+    ap (λ (c : Option CloseCause). after_end_of p.keep p.table.head.minor (answer_returned c p) l) none
+    ∙ line_so (after_put p.content fresh_answer) f p l s
     ∙ ap (λ (a : Answer). after_end_of f.keep f.minor a l) (sym (content_is f p o s))
 
--- its service returns: the marks of its end
-return_ends : (T : Trace) (p : ProcessorParts) → IsSound T → IsOpenBy (request_folds T) true → IsOfRequest (request_folds T) p → end_marks T ≡ over ∷ last_answer_marks (keep_by (request_of T))
-return_ends T p sound here s =
+-- the body was none
+line_bad : (f : RequestFolds) (p : ProcessorParts) (l : LineParts) → is_bad_request l.cause ≡ true → IsOfRequest f p → line_returned p l ≡ after_end_of f.keep f.minor (error_answer_of bad_request) l
+line_bad f p l bad s =
+    ap (λ (v : Bool). after_end_of p.keep p.table.head.minor (if v then error_answer_of bad_request else answer_at p) l) bad
+    ∙ line_so (error_answer_of bad_request) f p l s
+
+-- nothing of its answer is out
+none_out : (T : Trace) (p : ProcessorParts) → is_open T ≡ true → IsOfRequest (request_folds T) p → is_committed T ≡ false
+none_out T p o s = ap (λ (x : Sending). elim x.commit [ None ↦ false | Some c ↦ true ]) (s.alone.sending o)
+
+-- its service returns: the marks of its end, where there is no cause to close
+return_ends : (T : Trace) (p : ProcessorParts) → IsSound T → cause_of T ≡ None → IsOpenBy (request_folds T) true → IsOfRequest (request_folds T) p → end_marks T ≡ over ∷ last_answer_marks (keep_by (request_of T))
+return_ends T p sound none here s =
     let o = here.is_open in
-    let none = sound.calm o in
     let minor = minor_by (request_of T) in
     let keep = keep_by (request_of T) in
     let a = after_put (answer_of T).content fresh_answer in
@@ -248,7 +272,8 @@ return_ends T p sound here s =
     let closes : ends_closed T ≡ not keep =
     (λ i. has_closed (end_by (none i) false (is i) 0 (record { sending = sent_so i; output = unsent T })).sending)
     ∙ finish_closes a 0 minor keep (unsent T) refl in
-    plain_end T (plainly T sound) none
+    plain_end T (plainly T sound) (none_out T p o s)
+    ∙ (λ i. error_before (none i) ++ over ∷ closing_marks_by (none i) (cause_behind false false (ends_closed T)))
     ∙ ap (λ (v : Bool). over ∷ cause_marks (cause_behind false false v)) closes
     ∙ by_keep keep
   where
@@ -256,41 +281,108 @@ return_ends T p sound here s =
     by_keep true = refl
     by_keep false = refl
 
-pub return_answers : (limits : Limits) (at : ℕ) (b into : List ℕ) (T : Trace) (old moved finished new : LineParts) (p q : ProcessorParts) → p.stage ≡ stage.Serving → Serves T old p → moved ≡ at_moment at old → finished ≡ line_returned p moved → q ≡ after_return p → new ≡ after_rest limits finished → Answers T (callback_reply limits T act.Return) (rested_callback limits new.moment T act.Return b) (replied_in reply.Done into) new q
-return_answers limits at b into T old moved finished new p q at_stage s later written parts rests =
+-- and where its body was none
+bad_ends : (T : Trace) (p : ProcessorParts) (k : CloseCause) → IsSound T → cause_of T ≡ Some k → is_bad_request (Some k) ≡ true → is_open T ≡ true → IsOfRequest (request_folds T) p → end_marks T ≡ error_answer bad_request ∷ over ∷ []
+bad_ends T p k sound has bad o s =
+    plain_end T (plainly T sound) (none_out T p o s)
+    ∙ (λ i. error_before (has i) ++ over ∷ closing_marks_by (has i) (cause_behind false false (ends_closed T)))
+    ∙ ap (λ (v : Bool). (if v then error_answer bad_request ∷ [] else []) ++ over ∷ []) bad
+
+bad_mark : (T : Trace) (l : LineParts) → Holds T l → Holds ((l.moment, error_answer bad_request) ∷ T) l
+bad_mark T l s = let i = s.sound.input in record {
+  same = s.same;
+  sound = record {
+    input = same_input T ((l.moment, error_answer bad_request) ∷ T) i i.given i.heads_came i.told;
+    took_past = s.sound.took_past;
+    built = built_more l.moment (error_answer bad_request) T refl s.sound.built;
+    calm = s.sound.calm;
+  };
+  none_later = marks_by l.moment l.moment (error_answer bad_request ∷ []) T (omega arith) s.none_later;
+}
+
+-- what follows of a return, whichever marks its end has
+return_by : (limits : Limits) (at : ℕ) (b into : List ℕ) (T : Trace) (old moved finished new : LineParts) (p q : ProcessorParts) (marks : List Mark) → p.stage ≡ stage.Serving → Serves T old p → moved ≡ at_moment at old → q ≡ after_return p → new ≡ after_rest limits finished
+    → finished.moment ≡ moved.moment → end_marks T ≡ marks
+    → let R : Trace = with_marks moved.moment marks ((moved.moment, called call.Return None) ∷ (moved.moment, back) ∷ T) in
+    Represents R finished → IsOfRequest (request_folds R) (after_return p) → ended_charts R ≡ ended_charts T ++ calls R ∷ []
+    → Answers T (callback_reply limits T act.Return) (rested_callback limits new.moment T act.Return b) (replied_in reply.Done into) new q
+return_by limits at b into T old moved finished new p q marks at_stage s later parts rests same_moment ends line request charts =
     let m = moved.moment in
-    let keep = keep_by (request_of T) in
     let S : Trace = (m, called call.Return None) ∷ (m, back) ∷ T in
-    let R : Trace = with_marks m (over ∷ last_answer_marks keep) S in
-    let line = moved_stands at T old moved s.line later in
-    let stands = stands_request T p (ap is_open_at at_stage) s.processor in
-    let here = serving_request (request_folds T) p at_stage stands in
+    let R : Trace = with_marks m marks S in
+    let here = serving_request (request_folds T) p at_stage (stands_request T p (ap is_open_at at_stage) s.processor) in
     let runs : running T ≡ Some (job.Service (part_of T)) = here.runs in
-    let in_state : state_of T ≡ state.Dispatched = (plainly T line.sound).here in
+    let in_state : state_of T ≡ state.Dispatched = (plainly T s.line.sound).here in
     let wanted : callback_reply limits T act.Return ≡ plain reply.Done = ap (λ (o : Option Job). if is_some o then plain reply.Done else plain reply.NotActive) runs in
-    let at_moment_of : new.moment ≡ m = ap (λ (k : LineParts). k.moment) rests ∙ rest_moment limits finished ∙ ap (λ (k : LineParts). k.moment) written in
+    let at_moment_of : new.moment ≡ m = ap (λ (k : LineParts). k.moment) rests ∙ rest_moment limits finished ∙ same_moment in
     let trace : rested_callback limits new.moment T act.Return b ≡ rested limits m R =
     ap (λ (t : ℕ). rested_callback limits t T act.Return b) at_moment_of
     ∙ ap (λ (o : Option Job). if is_some o then rested limits m (with_marks m (return_marks T) T) else T) runs
     ∙ ap (λ (st : State). rested limits m (with_marks m (end_marks_where (is_end (row st call.Return)) T) S)) in_state
-    ∙ ap (λ (ms : List Mark). rested limits m (with_marks m ms S)) (return_ends T p line.sound here stands) in
-    let ends = over_ends m keep S in
-    let a = after_put (answer_of T).content fresh_answer in
-    let is : answer_of T ≡ a = stands.alone.answer here.is_open in
-    let text : line_returned p moved ≡ after_end_of keep (minor_by (request_of T)) a moved =
-    line_of (request_folds T) p moved here.is_open stands ∙ ap (λ (x : Answer). after_end_of keep (minor_by (request_of T)) x moved) is in
-    let over_line : Represents R finished =
-    subst (Represents R) (sym (written ∙ text))
-    (over_stands S moved (minor_by (request_of T)) keep a (stands.alone.sending here.is_open ∙ ap (uncut (minor_by (request_of T)) keep) is) is refl refl
-    (line.sound.calm here.is_open) (returned_line T moved line)) in
-    let over_request : IsOfRequest (request_folds R) (after_return p) =
-    subst (λ (f : RequestFolds). IsOfRequest f (after_return p)) (sym ends.folds) (returned_parts (sending_of R) (request_folds T) p here stands) in
-    let charts : ended_charts R ≡ ended_charts T ++ calls R ∷ [] = ends.charts ∙ sym (ap (λ (f : RequestFolds). ended_charts T ++ f.calls ∷ []) ends.folds) in
-    let follows = ended_serves limits m T R finished (after_return p) refl over_request charts (omega (arith, ap (λ (k : LineParts). k.moment) written)) over_line in
+    ∙ ap (λ (ms : List Mark). rested limits m (with_marks m ms S)) ends in
+    let follows = ended_serves limits m T R finished (after_return p) refl request charts (omega (arith, same_moment)) line in
     record {
       reply = sym wanted;
       after = subst (λ (X : Trace). ServesAfter T X new q) (sym trace) (subst (λ (k : LineParts). ServesAfter T (rested limits m R) k q) (sym rests) (subst (λ (k : ProcessorParts). ServesAfter T (rested limits m R) (after_rest limits finished) k) (sym parts) follows));
     }
+
+pub return_answers : (limits : Limits) (at : ℕ) (b into : List ℕ) (T : Trace) (old moved finished new : LineParts) (p q : ProcessorParts) → p.stage ≡ stage.Serving → Serves T old p → moved ≡ at_moment at old → finished ≡ line_returned p moved → q ≡ after_return p → new ≡ after_rest limits finished → Answers T (callback_reply limits T act.Return) (rested_callback limits new.moment T act.Return b) (replied_in reply.Done into) new q
+return_answers limits at b into T old moved finished new p q at_stage s later written parts rests = by_cause (cause_of T) refl
+  where
+    m : ℕ
+    m = moved.moment
+
+    S : Trace
+    S = (m, called call.Return None) ∷ (m, back) ∷ T
+
+    line : Represents T moved
+    line = moved_stands at T old moved s.line later
+
+    stands : IsOfRequest (request_folds T) p
+    stands = stands_request T p (ap is_open_at at_stage) s.processor
+
+    here : IsOpenBy (request_folds T) true
+    here = serving_request (request_folds T) p at_stage stands
+
+    its_cause : moved.cause ≡ cause_of T
+    its_cause = ap (λ (l : LineParts). l.cause) line.same
+
+    same_moment : finished.moment ≡ m
+    same_moment = ap (λ (k : LineParts). k.moment) written
+
+    by_cause : (c : Option CloseCause) → cause_of T ≡ c → Answers T (callback_reply limits T act.Return) (rested_callback limits new.moment T act.Return b) (replied_in reply.Done into) new q
+    by_cause None none =
+        let keep = keep_by (request_of T) in
+        let minor = minor_by (request_of T) in
+        let a = after_put (answer_of T).content fresh_answer in
+        let is : answer_of T ≡ a = stands.alone.answer here.is_open in
+        let R : Trace = with_marks m (over ∷ last_answer_marks keep) S in
+        let ends = over_ends m keep S in
+        let text : line_returned p moved ≡ after_end_of keep minor a moved =
+        line_of (request_folds T) p moved (its_cause ∙ none) here.is_open stands ∙ ap (λ (x : Answer). after_end_of keep minor x moved) is in
+        let over_now : Represents R finished =
+        subst (Represents R) (sym (written ∙ text))
+        (over_stands S moved minor keep a here.is_open (stands.alone.sending here.is_open ∙ ap (uncut minor keep) is) is refl refl none (returned_line T moved line)) in
+        return_by limits at b into T old moved finished new p q (over ∷ last_answer_marks keep) at_stage s later parts rests same_moment
+        (return_ends T p line.sound none here stands) over_now
+        (subst (λ (f : RequestFolds). IsOfRequest f (after_return p)) (sym ends.folds) (returned_parts (answer_of T) (sending_of R) (request_folds T) p here stands))
+        (ends.charts ∙ sym (ap (λ (f : RequestFolds). ended_charts T ++ f.calls ∷ []) ends.folds))
+    by_cause (Some k) has =
+        let keep = keep_by (request_of T) in
+        let minor = minor_by (request_of T) in
+        let a = error_answer_of bad_request in
+        let bad : is_bad_request (Some k) ≡ true = sym (ap is_body_cause has) ∙ line.sound.calm here.is_open in
+        let E : Trace = (m, error_answer bad_request) ∷ S in
+        let R : Trace = (m, over) ∷ E in
+        let ends = over_ends m true E in
+        let sent_so : sending_of E ≡ uncut minor keep a = ap (with_error bad_request) (stands.alone.sending here.is_open) in
+        let over_now : Represents R finished =
+        subst (Represents R) (sym (written ∙ line_bad (request_folds T) p moved (ap is_bad_request (its_cause ∙ has) ∙ bad) stands))
+        (bad_stands E moved minor keep a k here.is_open sent_so refl refl refl has (bad_mark S moved (returned_line T moved line))) in
+        return_by limits at b into T old moved finished new p q (error_answer bad_request ∷ over ∷ []) at_stage s later parts rests same_moment
+        (bad_ends T p k line.sound has bad here.is_open stands) over_now
+        (subst (λ (f : RequestFolds). IsOfRequest f (after_return p)) (sym ends.folds) (returned_parts a (sending_of R) (request_folds T) p here stands))
+        (ends.charts ∙ sym (ap (λ (f : RequestFolds). ended_charts T ++ f.calls ∷ []) ends.folds))
 
 -- ---- a refused act
 

@@ -10,5 +10,6 @@ pub mod Lines
 pub mod Requests
 mod TurnParts
 mod ActParts
+mod Work
 mod Openings
 mod AnswerParts

@@ -9,7 +9,7 @@ use Rattle.cy_event.specs.declared.steps.CloseCause.{CloseCause}
 use Rattle.cy_event.specs.declared.steps.CloseCause.TheVariants.{InputEnd, Refused}
 use Rattle.cy_event.specs.Answers.{Answer, error_answer as error_answer_of, fresh_answer}
 use Rattle.cy_event.specs.Charts.{chart_of}
-use Rattle.cy_event.specs.Framings.{bad_request}
+use Rattle.cy_event.specs.Framings.{Framed, bad_request}
 use Rattle.cy_event.specs.Heads.{Head, Front, awaited, found, malformed, head_of}
 use Rattle.cy_event.specs.Targets.{target_of}
 use Rattle.cy_event.specs.RequestHeads.{RequestParts}
@@ -38,7 +38,7 @@ use Rattle.cy_proc.specs.ProcessorChanges.{due_at, due_of_head, line_with, proce
 use Rattle.cy_proc.specs.Processors.{IsIdle, IsOfRequest, IsServiceAlone, ProcessorParts, RequestFolds, StandsForRequest, fresh_processor, is_open_at, request_folds, service_by, stage_by, uncut, waiting_content}
 use Rattle.cy_proc.specs.declared.processor.Stage.TheVariants as stage
 use Rattle.cy_proc.proofs.Built.{IsBuiltDue, built_more, due_built}
-use Rattle.cy_proc.proofs.Lines.{began_stands, marks_at, over_stands, plainly, refused_stands, rest_moment, rest_stands}
+use Rattle.cy_proc.proofs.Lines.{Holds, began_held, holds, marks_by, over_stands, plainly, refused_stands, rest_moment, rest_stands, same_input}
 use Rattle.cy_proc.proofs.Requests.{head_kept, rested_same, stands_idle, stands_same}
 use Rattle.cy_proc.proofs.ActParts.{ended_serves, over_ends}
 
@@ -163,7 +163,7 @@ refusal_taken limits T status to_head l idle none s =
       moved = refl;
       follows = record {
         serves = record {
-          line = rest_stands limits m R (after_refusal status to_head l) (omega arith) stood;
+          line = rest_stands limits m R (after_refusal status to_head l) (omega arith) (holds R (after_refusal status to_head l) stood);
           processor = stands_same R (rested limits m R) q same (inl (refusal_parts limits status to_head T m idle.closed));
         };
         charts = ap (map chart_of) same.charts ∙ sym (append-nil (ended_items T));
@@ -176,11 +176,7 @@ size_bounds limits T r front = front_length-bounds (unread T) r.size (head_of-fo
 
 -- the request isn't one of HEAD
 not_head : (r : TakenUp) → is_unbuilt_request r ≡ false → is_head_method r.head ≡ false
-not_head r built = of_either (is_framed r.framing) (is_head_method r.head) built
-  where
-    of_either : (a b : Bool) → (a || b) ≡ false → b ≡ false
-    of_either true b e = cc
-    of_either false b e = e
+not_head r built = built
 
 -- how its answer begins, with this content
 begins_uncut : (r : TakenUp) (a : Answer) → is_unbuilt_request r ≡ false → record (beginning (asked_of r)) { waiting = a.content } ≡ uncut r.head.minor r.keep a
@@ -201,13 +197,13 @@ begun_alone r T t built = record {
   sending = λ o. begins_uncut r fresh_answer built;
 }
 
-request_taken : (limits : Limits) (T : Trace) (r : TakenUp) (l : LineParts) → r.place ≡ consumed T → front_of limits T ≡ found r.size r.head → is_unbuilt_request r ≡ false → cause_of T ≡ None → Represents T l → Taken limits T (request r) l (after_rest limits (after_begin r.size r.go_on l)) (with_request stage.Owed r (fresh_processor limits))
+request_taken : (limits : Limits) (T : Trace) (r : TakenUp) (l : LineParts) → r.place ≡ consumed T → front_of limits T ≡ found r.size r.head → is_unbuilt_request r ≡ false → cause_of T ≡ None → Represents T l → Taken limits T (request r) l (after_rest limits (after_begin r.size r.framing r.max_trailer r.go_on l)) (with_request stage.Owed r (fresh_processor limits))
 request_taken limits T r l place front built none s =
     let m = l.moment in
     let R : Trace = (m, began r) ∷ T in
     let q : ProcessorParts = with_request stage.Owed r (fresh_processor limits) in
     let bounds = size_bounds limits T r front in
-    let stood = began_stands r T l place bounds.1 built none bounds.0 s in
+    let stood = began_held r T l place bounds.1 built none bounds.0 s in
     let same = rested_same limits m R (plainly R stood.sound) in
     let stands : StandsForRequest R q = inl (record { same = refl; alone = begun_alone r T m built }) in
     record {
@@ -215,37 +211,37 @@ request_taken limits T r l place front built none s =
       moved = refl;
       follows = record {
         serves = record {
-          line = rest_stands limits m R (after_begin r.size r.go_on l) (omega arith) stood;
+          line = rest_stands limits m R (after_begin r.size r.framing r.max_trailer r.go_on l) (omega arith) stood;
           processor = stands_same R (rested limits m R) q same stands;
         };
         charts = ap (map chart_of) same.charts ∙ sym (append-nil (ended_items T));
       };
     }
 
-error_mark : (T : Trace) (l : LineParts) → Represents T l → Represents ((l.moment, error_answer not_found_status) ∷ T) l
-error_mark T l s = record {
+error_mark : (T : Trace) (l : LineParts) → Holds T l → Holds ((l.moment, error_answer not_found_status) ∷ T) l
+error_mark T l s = let i = s.sound.input in record {
   same = s.same;
   sound = record {
-    heads_came = s.sound.heads_came;
+    input = same_input T ((l.moment, error_answer not_found_status) ∷ T) i i.given i.heads_came i.told;
     took_past = s.sound.took_past;
     built = built_more l.moment (error_answer not_found_status) T refl s.sound.built;
     calm = s.sound.calm;
   };
-  none_later = marks_at (error_answer not_found_status ∷ []) T l s;
+  none_later = marks_by l.moment l.moment (error_answer not_found_status ∷ []) T (omega arith) s.none_later;
 }
 
-not_found_taken : (limits : Limits) (T : Trace) (r : TakenUp) (l : LineParts) → r.place ≡ consumed T → front_of limits T ≡ found r.size r.head → is_unbuilt_request r ≡ false → cause_of T ≡ None → Represents T l → Taken limits T (not_found r) l (after_rest limits (after_end_of r.keep r.head.minor (error_answer_of not_found_status) (after_begin r.size r.go_on l))) (with_request stage.Over r (fresh_processor limits))
+not_found_taken : (limits : Limits) (T : Trace) (r : TakenUp) (l : LineParts) → r.place ≡ consumed T → front_of limits T ≡ found r.size r.head → is_unbuilt_request r ≡ false → cause_of T ≡ None → Represents T l → Taken limits T (not_found r) l (after_rest limits (after_end_of r.keep r.head.minor (error_answer_of not_found_status) (after_begin r.size r.framing r.max_trailer r.go_on l))) (with_request stage.Over r (fresh_processor limits))
 not_found_taken limits T r l place front built none s =
     let m = l.moment in
     let a = error_answer_of not_found_status in
     let S : Trace = (m, error_answer not_found_status) ∷ (m, began r) ∷ T in
     let R : Trace = with_marks m (over ∷ last_answer_marks r.keep) S in
     let q : ProcessorParts = with_request stage.Over r (fresh_processor limits) in
-    let k : LineParts = after_begin r.size r.go_on l in
+    let k : LineParts = after_begin r.size r.framing r.max_trailer r.go_on l in
     let bounds = size_bounds limits T r front in
-    let begun : Represents S k = error_mark ((m, began r) ∷ T) k (began_stands r T l place bounds.1 built none bounds.0 s) in
+    let begun : Holds S k = error_mark ((m, began r) ∷ T) k (began_held r T l place bounds.1 built none bounds.0 s) in
     let line : Represents R (after_end_of r.keep r.head.minor a k) =
-    over_stands S k r.head.minor r.keep a (begins_uncut r a built) refl refl refl none begun in
+    over_stands S k r.head.minor r.keep a refl (begins_uncut r a built) refl refl refl none begun in
     let ends = over_ends m r.keep S in
     let stands : IsOfRequest (request_folds R) q =
     subst (λ (f : RequestFolds). IsOfRequest f q) (sym ends.folds) (record {
@@ -303,8 +299,7 @@ open_takes limits rules T l taken new p q free due s begun held rests =
     let place = consumed T in
     let at_trace : due_at limits rules l ≡ d = ap (λ (k : LineParts). due_at limits rules k) s.line.same in
     let due_trace : (may_begin T && not (is_awaited (front_of limits T))) ≡ true =
-    ap (λ (v : Bool). may_begin_by (is_open T) (cause_of T) v (unsent T) && not (is_awaited (front_of limits T))) (has_whole T (plainly T s.line.sound))
-    ∙ ap (λ (k : LineParts). is_due limits k) (sym s.line.same) ∙ due in
+    ap (λ (k : LineParts). is_due limits k) (sym s.line.same) ∙ due in
     let tests = and_parts (may_begin T) (not (is_awaited (front_of limits T))) due_trace in
     let free_now = may_begin-parts T tests.0 in
     let idle : IsIdle (request_folds T) = stands_idle T p (ap (λ (k : ProcessorParts). is_open_at k.stage) free) s.processor in
@@ -327,75 +322,3 @@ open_takes limits rules T l taken new p q free due s begun held rests =
       after = subst (λ (k : Limits). ServesAfter T (rested k new.moment (with_marks l.moment w.marks T)) new q) (sym same)
           (subst (λ (t : ℕ). ServesAfter T (rested limits t (with_marks l.moment w.marks T)) new q) (sym m) serves);
     }
-
--- ---- each head makes the work less
-
-pub work_after_rest : (limits : Limits) (l : LineParts) → work_of (after_rest limits l) ≤ work_of l
-work_after_rest limits l =
-    elim (ends_at_rest limits l) as (λ v. work_of (if v then record l { cause = Some InputEnd } else l) ≤ work_of l) [ true ↦ omega arith | false ↦ omega arith ]
-
--- a head that is found has a byte at least, and stands in what waits
-FindsHead : Due → LineParts → Type 0
-FindsHead nothing l = ⊥
-FindsHead (refusal status to_head) l = Unit {0}
-FindsHead (not_found r) l = (1 ≤ r.size) × (r.size ≤ length l.unread)
-FindsHead (request r) l = (1 ≤ r.size) × (r.size ≤ length l.unread)
-
-cause_count : (c : Option CloseCause) → causes_left c ≤ 1
-cause_count None = omega arith
-cause_count (Some k) = omega arith
-
-less_work : (d : Due) (l : LineParts) → l.cause ≡ None → FindsHead d l → work_of (line_with d l) < work_of l
-unfolding FindsHead
-less_work nothing l none finds = absurd finds
-less_work (refusal status to_head) l none finds = omega (arith, ap causes_left none)
-less_work (not_found r) l none finds =
-    omega (arith, finds.0, finds.1, length-drop r.size l.unread, ap causes_left none, cause_count (line_with (not_found r) l).cause)
-less_work (request r) l none finds =
-    omega (arith, finds.0, finds.1, length-drop r.size l.unread, ap causes_left none)
-
-finds_head : (limits : Limits) (rules : List Rule) (number : ℕ) (l : LineParts) (f : Front) → front_at limits l ≡ f → is_awaited f ≡ false → FindsHead (due_by_front limits rules 0 number f) l
-unfolding FindsHead
-finds_head limits rules number l awaited at some = cc
-finds_head limits rules number l malformed at some = tt
-finds_head limits rules number l (found n h) at some =
-    let bounds = front_length-bounds l.unread n (head_of-found limits.max_head limits.max_fields l.unread n h at) in
-    elim (verdict_of rules h) as (λ v. FindsHead (due_by_verdict limits 0 number n h v) l) [
-      | turned_away status ↦ tt
-      | unserved f ↦ bounds
-      | served rule f ↦ bounds
-    ]
-
-not_true : (v : Bool) → not v ≡ true → v ≡ false
-not_true true e = cc
-not_true false e = refl
-
-no_cause : (c : Option CloseCause) → is_none c ≡ true → c ≡ None
-no_cause None e = refl
-no_cause (Some k) e = cc
-
-pub opened_less : (limits : Limits) (rules : List Rule) (l taken new : LineParts) → is_due limits l ≡ true → taken ≡ line_with (due_at limits rules l) l → new ≡ after_rest limits taken → work_of new < work_of l
-opened_less limits rules l taken new due begun rests =
-    let tests = and_parts (may_begin_line l) (not (is_awaited (front_at limits l))) due in
-    let may = and_parts (not l.is_open) (is_none l.cause && leb (length l.unsent) begin_bound) tests.0 in
-    let none = no_cause l.cause (and_parts (is_none l.cause) (leb (length l.unsent) begin_bound) may.1).0 in
-    let less = less_work (due_at limits rules l) l none (finds_head limits rules (l.begun + 1) l (front_at limits l) refl (not_true (is_awaited (front_at limits l)) tests.1)) in
-    omega (arith, less, work_after_rest limits taken, ap work_of rests, ap work_of begun)
-
--- ---- what the socket tells makes it more by the bytes that came
-
-work_of_event : (e : Event) (b : List ℕ) (l : LineParts) → work_of (after_event e b l) ≤ work_of l + length b
-work_of_event event.In b l =
-    omega (arith, appended, length-take (room_of l) b)
-  where
-    appended : length (after_event event.In b l).unread ≡ length l.unread + length (take (room_of l) b)
-    appended = length-append l.unread (take (room_of l) b)
-work_of_event event.End b l = omega arith
-work_of_event (event.Took n) b l = omega arith
-
-pub told_work : (limits : Limits) (e : Event) (b : List ℕ) (l : LineParts) → work_of (after_told limits e b l) ≤ work_of l + length b
-told_work limits e b l =
-    elim (is_closed_line e l) as (λ v. work_of (if v then l else after_rest limits (after_event e b l)) ≤ work_of l + length b) [
-      | true ↦ omega arith
-      | false ↦ omega (arith, work_after_rest limits (after_event e b l), work_of_event e b l)
-    ]

@@ -4,7 +4,7 @@ use Rattle.cy_proc.specs.LineChanges.{after_told, work_of}
 use Rattle.cy_proc.specs.Lines.{LineParts}
 use Rattle.cy_proc.specs.Processors.{ProcessorParts}
 use Rattle.cy_proc.proofs.Lines.{told_moment}
-use Rattle.cy_proc.proofs.Openings.{told_work}
+use Rattle.cy_proc.proofs.Work.{told_work}
 use Rattle.cy_proc.proofs.TurnParts.{event_answers}
 use Rattle.cy_proc.proofs.processor.Processor.event.Goals as goal
 

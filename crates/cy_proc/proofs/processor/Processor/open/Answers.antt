@@ -3,7 +3,8 @@ use Rattle.std.proofs.Common.{◌≡◌, ap, ◌∙◌}
 use Rattle.cy_proc.specs.LineChanges.{after_rest}
 use Rattle.cy_proc.specs.ProcessorChanges.{due_at}
 use Rattle.cy_proc.specs.Processors.{ProcessorParts}
-use Rattle.cy_proc.proofs.Openings.{open_takes, opened_less, opened_moment, same_limits}
+use Rattle.cy_proc.proofs.Openings.{open_takes, opened_moment, same_limits}
+use Rattle.cy_proc.proofs.Work.{opened_less}
 use Rattle.cy_proc.proofs.processor.Processor.open.Goals as goal
 
 rested : (c : goal.After-rest) → c.rest.new.self ≡ after_rest c.args.self.now.limits c.take_up.new.line
@@ -25,3 +26,8 @@ returns-clause-moment c =
 pub returns-clause-less : goal.returns-clause-less
 returns-clause-less c =
     opened_less c.args.self.now.limits c.args.rules.now c.args.line.now c.take_up.new.line c.rest.new.self c.requires.due c.take_up.ensures.line (rested c)
+
+pub returns-clause-limits : goal.returns-clause-limits
+returns-clause-limits c =
+    ap (λ (p : ProcessorParts). p.limits) c.take_up.ensures.request
+    ∙ same_limits (due_at c.args.self.now.limits c.args.rules.now c.args.line.now) c.args.self.now
