@@ -21,7 +21,7 @@ use Rattle.cy_event.specs.Heads.{Head}
 use Rattle.cy_event.specs.Targets.{target_of}
 use Rattle.cy_head.specs.Answers.{just_read}
 use Rattle.cy_event.specs.Table.{next_state, row, is_end, state_after}
-use Rattle.cy_model.specs.Entries.{act_marks, act_reply, callback_reply, is_full, open_act_marks, open_act_reply, rested_act, rested_callback, return_marks, write_takes, end_marks_where}
+use Rattle.cy_model.specs.Entries.{act_marks, act_reply, callback_reply, is_closed_act, is_full, open_act_marks, open_act_reply, rested_act, rested_callback, return_marks, write_takes, end_marks_where}
 use Rattle.cy_event.specs.Answering.{Answering, Sending, has_closed, with_bytes, with_error}
 use Rattle.cy_model.specs.Endings.{cause_behind, cause_marks, closing_marks_by, end_marks, ends_closed, is_bad_request}
 use Rattle.cy_model.specs.Folds.{calls, cause_of, ended_charts, is_open, part_of, request_of, running, state_of}
@@ -405,15 +405,29 @@ idle_act limits at T old new p a b into at_stage s later =
     (ap (λ (o : Option Job). if is_some o then rested_act limits new.moment T (act_marks limits T a b) else T) runs)
 
 -- there is a cause to close
-pub closed_write : (limits : Limits) (at n : ℕ) (T : Trace) (old new : LineParts) (p : ProcessorParts) (b into : List ℕ) → p.stage ≡ stage.Serving → is_some new.cause ≡ true → Serves T old p → new ≡ at_moment at old → Answers T (callback_reply limits T (act.Write n)) (rested_callback limits new.moment T (act.Write n) b) (replied_in reply.Closed into) new p
-closed_write limits at n T old new p b into at_stage has_cause s later =
+pub closed_act : (limits : Limits) (at : ℕ) (T : Trace) (old new : LineParts) (p : ProcessorParts) (a : Act) (b into : List ℕ) → p.stage ≡ stage.Serving → is_closed_act a T ≡ is_some (cause_of T) → is_some new.cause ≡ true → Serves T old p → new ≡ at_moment at old → Answers T (callback_reply limits T a) (rested_callback limits new.moment T a b) (replied_in reply.Closed into) new p
+closed_act limits at T old new p a b into at_stage by_cause has_cause s later =
     let stands = stands_request T p (ap is_open_at at_stage) s.processor in
     let here = serving_request (request_folds T) p at_stage stands in
     let runs : running T ≡ Some (job.Service (part_of T)) = here.runs in
     let line = moved_stands at T old new s.line later in
-    let cause : is_some (cause_of T) ≡ true = sym (ap (λ (l : LineParts). is_some l.cause) line.same) ∙ has_cause in
-    refused_act_answers limits at T old new p (act.Write n) b reply.Closed into (ap is_open_at at_stage) s later
-    (ap (λ (o : Option Job). if is_some o then act_reply limits T (act.Write n) else plain reply.NotActive) runs
-    ∙ ap (λ (v : Bool). if v then plain reply.Closed else open_act_reply limits T (act.Write n)) cause)
-    (ap (λ (o : Option Job). if is_some o then rested_act limits new.moment T (act_marks limits T (act.Write n) b) else T) runs
-    ∙ ap (λ (v : Bool). rested_act limits new.moment T (if v then None else open_act_marks limits T (act.Write n) b)) cause)
+    let cause : is_closed_act a T ≡ true = by_cause ∙ sym (ap (λ (l : LineParts). is_some l.cause) line.same) ∙ has_cause in
+    refused_act_answers limits at T old new p a b reply.Closed into (ap is_open_at at_stage) s later
+    (ap (λ (o : Option Job). if is_some o then act_reply limits T a else plain reply.NotActive) runs
+    ∙ ap (λ (v : Bool). if v then plain reply.Closed else open_act_reply limits T a) cause)
+    (ap (λ (o : Option Job). if is_some o then rested_act limits new.moment T (act_marks limits T a b) else T) runs
+    ∙ ap (λ (v : Bool). rested_act limits new.moment T (if v then None else open_act_marks limits T a b)) cause)
+
+-- a write, whether there is a cause to close or not
+pub write_by : (limits : Limits) (at n : ℕ) (b given into : List ℕ) (T : Trace) (old new : LineParts) (p q : ProcessorParts) (r : Reply) → p.stage ≡ stage.Serving → n ≤ length b → Serves T old p → new ≡ at_moment at old → given ≡ take n b
+    → r ≡ (if is_some new.cause then reply.Closed else write_reply p (length given)) → q ≡ (if is_some new.cause then p else after_write (length given) given p)
+    → Answers T (callback_reply limits T (act.Write n)) (rested_callback limits new.moment T (act.Write n) b) (replied_in r into) new q
+write_by limits at n b given into T old new p q r at_stage within s later sliced replied parts =
+    elim (is_some new.cause) as (λ v. is_some new.cause ≡ v → r ≡ (if v then reply.Closed else write_reply p (length given)) → q ≡ (if v then p else after_write (length given) given p)
+    → Answers T (callback_reply limits T (act.Write n)) (rested_callback limits new.moment T (act.Write n) b) (replied_in r into) new q) [
+      | true ↦ λ has told left.
+          subst (λ (x : Reply). Answers T (callback_reply limits T (act.Write n)) (rested_callback limits new.moment T (act.Write n) b) (replied_in x into) new q) (sym told)
+          (subst (λ (x : ProcessorParts). Answers T (callback_reply limits T (act.Write n)) (rested_callback limits new.moment T (act.Write n) b) (replied_in reply.Closed into) new x) (sym left)
+          (closed_act limits at T old new p (act.Write n) b into at_stage refl has s later))
+      | false ↦ λ calm told left. write_answers limits at n b given into T old new p q r at_stage calm within s later sliced told left
+    ] refl replied parts

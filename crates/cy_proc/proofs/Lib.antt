@@ -7,9 +7,11 @@ pub mod InRing
 pub mod Built
 pub mod Plain
 pub mod Lines
+pub mod Readings
 pub mod Requests
 mod TurnParts
 mod ActParts
+mod ReadParts
 mod Work
 mod Openings
 mod AnswerParts

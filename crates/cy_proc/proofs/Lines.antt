@@ -22,7 +22,7 @@ use Rattle.cy_model.specs.Settling.{body_cause, body_cause_by, front_of, is_awai
 use Rattle.cy_model.specs.Unbuilt.{is_unbuilt_cause, is_unbuilt_request}
 use Rattle.cy_model.proofs.Built.{IsPlain, mark_plain, plain_of}
 use Rattle.cy_model.proofs.Gone.{open_may_not_begin}
-use Rattle.cy_proc.specs.LineBodies.{IsGivenWithin, IsSoundInput, intake_of}
+use Rattle.cy_proc.specs.LineBodies.{IsAllGiven, IsGivenWithin, IsSoundInput, intake_of}
 use Rattle.cy_proc.specs.Lines.{IsAtRest, LineParts, line_parts, IsSound, NoneLater, Represents, is_body_cause}
 use Rattle.cy_proc.proofs.LineInputs.{began_input, began_parts, came_input, came_parts, over_line}
 use Rattle.cy_proc.proofs.Rests.{at_rest_is, cause_now, ends_inside, ends_now, now_built, pick, rested_closed, rested_now, with_cause}
@@ -104,7 +104,7 @@ told_moment limits e b l =
 
 -- nothing of the input changes
 pub same_input : (T R : Trace) → IsSoundInput T → IsGivenWithin (last_taken R) (bytes_of R) (given_count R) → head_end (last_taken R) ≤ length (bytes_of R)
-    → (is_open R ≡ true → is_end_told R ≡ true → has_whole_body R ≡ true) → IsSoundInput R
+    → (is_open R ≡ true → is_end_told R ≡ true → IsAllGiven R) → IsSoundInput R
 same_input T R i given heads told = record { heads_came = heads; given = given; told = told }
 
 came_held : (t m : ℕ) (b : List ℕ) (T : Trace) → t ≤ m → Holds T (line_parts m T) → Holds ((t, came b) ∷ T) (gone_on (with_more b (line_parts m T)))

@@ -59,7 +59,7 @@ told_same t event.In b T = record { folds = refl; charts = refl }
 told_same t event.End b T = record { folds = refl; charts = refl }
 told_same t (event.Took n) b T = record { folds = refl; charts = refl }
 
-joined : (T R S : Trace) → SameRequests T R → SameRequests R S → SameRequests T S
+pub joined : (T R S : Trace) → SameRequests T R → SameRequests R S → SameRequests T S
 joined T R S first second = record { folds = second.folds ∙ first.folds; charts = second.charts ∙ first.charts }
 
 told_plain : (t : ℕ) (e : Event) (b : List ℕ) (T : Trace) → IsPlain T → IsPlain (with_marks t (event_marks T e b) T)
