@@ -1,5 +1,5 @@
 -- What a trace says of the body of its last request, as an intake: it goes on as bytes come.
-use Rattle.std.proofs.Common.{◌≡◌, ◌≤◌, ℕ, ◌+◌, ◌-◌, Bool, true, false, not, ◌&&◌, List, [], ◌∷◌, ◌++◌, length, drop, take, Option, Some, None, refl, sym, ap, ◌∙◌, subst, arith, length-drop, if◌then◌else◌}
+use Rattle.std.proofs.Common.{◌≡◌, ◌≤◌, ℕ, ◌+◌, ◌-◌, Bool, true, false, not, ◌&&◌, List, ◌∷◌, ◌++◌, length, drop, take, Option, Some, None, refl, sym, ap, ◌∙◌, arith, length-drop, if◌then◌else◌}
 use Rattle.std.specs.Prelude.{unwrap_or}
 use Rattle.std.proofs.Math.Seq.{drop-append_seam}
 use Rattle.std.proofs.lemmas.List.{drop-append-le, drop-drop, take-append-drop}
@@ -7,8 +7,8 @@ use Rattle.cy_event.specs.declared.body.BodyMark.{BodyMark}
 use Rattle.cy_event.specs.declared.body.BodyStage.{BodyStage}
 use Rattle.cy_event.specs.declared.body.BodyStage.TheVariants as stage
 use Rattle.cy_event.specs.declared.framing.Framing.TheVariants as framing
-use Rattle.cy_event.specs.Bodies.{body_start, Given, content_in, first_stage, give_bytes, is_over, scan_bytes}
-use Rattle.cy_in.specs.Intakes.{Intake, after_scan, after_swallow, ahead}
+use Rattle.cy_event.specs.Bodies.{body_start, Given, first_stage, give_bytes, is_over, scan_bytes}
+use Rattle.cy_in.specs.Intakes.{after_scan, after_swallow, ahead}
 use Rattle.cy_in.proofs.Choices.{tested}
 use Rattle.cy_in.proofs.Counting.{counts_bytes}
 use Rattle.cy_in.proofs.Gives.{given_is}

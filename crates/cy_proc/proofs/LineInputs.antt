@@ -1,11 +1,11 @@
 -- What a line keeps of its input, as bytes come, a head is taken up, and a request ends: each is what the trace says.
-use Rattle.std.proofs.Common.{◌≡◌, ◌≤◌, ℕ, ◌+◌, ◌-◌, Bool, true, false, ◌||◌, ◌==◌, List, [], ◌∷◌, ◌++◌, length, drop, Option, Some, None, is_some, refl, sym, ap, ◌∙◌, subst, arith, append-nil, length-append, length-drop, if◌then◌else◌}
+use Rattle.std.proofs.Common.{◌≡◌, ◌≤◌, ℕ, ◌+◌, ◌-◌, true, false, ◌||◌, ◌==◌, List, [], ◌∷◌, ◌++◌, length, drop, Option, Some, None, is_some, refl, sym, ap, ◌∙◌, subst, arith, append-nil, length-append, length-drop, if◌then◌else◌}
 use Rattle.std.specs.Prelude.{unwrap_or}
 use Rattle.std.proofs.lemmas.Bool.{eqb-true}
 use Rattle.std.proofs.lemmas.List.{drop-append-le, drop-drop}
 use Rattle.cy_event.specs.declared.body.BodyMark.{BodyMark}
 use Rattle.cy_event.specs.Bodies.{Body, body_of, body_start, content_in, is_over, scan_bytes}
-use Rattle.cy_in.specs.Intakes.{Intake, after_scan, after_swallow, ahead, started, taken_by}
+use Rattle.cy_in.specs.Intakes.{Intake, after_swallow, ahead, taken_by}
 use Rattle.cy_in.proofs.Joins.{content_join, settled_body}
 use Rattle.cy_model.specs.Folds.{begun_count, bytes_of, is_open, last_taken}
 use Rattle.cy_model.specs.Inputs.{behind_head, body_by, consumed, given_count, head_end, consumed_by, is_whole, scan_by, scan_of, unread, used, used_at_end, waiting_of}

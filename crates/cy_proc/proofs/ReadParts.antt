@@ -8,8 +8,6 @@ use Rattle.cy_event.specs.Bodies.{content_in}
 use Rattle.cy_in.specs.Laws.{IsGiven}
 use Rattle.cy_in.proofs.Gives.{given_is}
 use Rattle.cy_event.specs.declared.limits.Limits.{Limits}
-use Rattle.cy_event.specs.declared.body.BodyStage.{BodyStage}
-use Rattle.cy_event.specs.declared.body.BodyStage.TheVariants as stage_of_body
 use Rattle.cy_event.specs.declared.steps.Act.TheVariants as act
 use Rattle.cy_event.specs.declared.steps.CloseCause.{CloseCause}
 use Rattle.cy_event.specs.declared.steps.Job.{Job}
@@ -19,10 +17,10 @@ use Rattle.cy_event.specs.declared.steps.Reply.TheVariants as reply
 use Rattle.cy_in.specs.Intakes.{after_read, ahead, content_read, has_content, is_ready, is_whole, piece, taken_by, waiting as waits_in}
 use Rattle.cy_in.specs.Reads.{reply_of_read}
 use Rattle.cy_in.proofs.Choices.{never_both, where_not, where_yes}
-use Rattle.cy_model.specs.Entries.{act_reply, callback_reply, act_marks, open_act_marks, rested_act, rested_callback}
+use Rattle.cy_model.specs.Entries.{act_reply, callback_reply, act_marks, rested_act, rested_callback}
 use Rattle.cy_model.specs.Folds.{cause_of, is_open, last_taken, part_of, running}
 use Rattle.cy_model.specs.Inputs.{has_whole_body, is_end_told, scan_of, unread, waiting}
-use Rattle.cy_model.specs.Marks.{Mark, TakenUp, Trace, given, end_given}
+use Rattle.cy_model.specs.Marks.{TakenUp, Trace, given, end_given}
 use Rattle.cy_model.specs.Reads.{Reading, content_read as content_given, end_read, nothing_read, reading_by, reading_in, reading_marks, reading_reply}
 use Rattle.cy_model.specs.Replies.{plain, replied_in}
 use Rattle.cy_model.specs.Settling.{rested}
@@ -31,9 +29,9 @@ use Rattle.cy_proc.specs.LineChanges.{after_rest, at_moment, cause_at_rest, read
 use Rattle.cy_proc.specs.Lines.{IsAtRest, LineParts, Represents, line_parts}
 use Rattle.cy_proc.specs.ProcessorAnswers.{Answers, GivesInto, Serves, ServesAfter}
 use Rattle.cy_proc.specs.ProcessorChanges.{line_read, read_content, read_into, read_reply}
-use Rattle.cy_proc.specs.Processors.{IsOfRequest, ProcessorParts, StandsForRequest, is_open_at, request_folds}
+use Rattle.cy_proc.specs.Processors.{ProcessorParts, StandsForRequest, is_open_at, request_folds}
 use Rattle.cy_proc.specs.declared.processor.Stage.TheVariants as stage
-use Rattle.cy_proc.proofs.ActParts.{closed_act, refused_act_answers}
+use Rattle.cy_proc.proofs.ActParts.{closed_act}
 use Rattle.cy_proc.proofs.Built.{built_more}
 use Rattle.cy_proc.proofs.Lines.{Holds, marks_at, moved_stands, plainly, rest_moment, rest_stands}
 use Rattle.cy_proc.proofs.LineInputs.{open_taken}

@@ -1,24 +1,24 @@
 -- A read finds of an open request's body what the trace says, and what follows of it is the trace with its mark.
-use Rattle.std.proofs.Common.{◌≡◌, ◌≤◌, ◌<◌, ℕ, ◌+◌, ◌-◌, Bool, true, false, not, ◌&&◌, nat_lt, List, [], ◌∷◌, ◌++◌, length, take, drop, Option, Some, None, is_some, refl, sym, ap, ◌∙◌, subst, arith, ltb-true, length-drop, length-take, length-take-le, if◌then◌else◌}
+use Rattle.std.proofs.Common.{◌≡◌, ◌≤◌, ℕ, ◌+◌, ◌-◌, Bool, true, false, not, ◌&&◌, List, [], ◌∷◌, length, take, drop, Option, Some, None, is_some, refl, sym, ap, ◌∙◌, subst, arith, length-drop, length-take, if◌then◌else◌}
 use Rattle.std.specs.Prelude.{min}
 use Rattle.std.proofs.lemmas.List.{drop-drop, take_min}
 use Rattle.cy_event.specs.declared.body.BodyMark.{BodyMark}
 use Rattle.cy_event.specs.declared.body.BodyStage.{BodyStage}
 use Rattle.cy_event.specs.declared.body.BodyStage.TheVariants as stage
 use Rattle.cy_event.specs.Bodies.{Given, body_at, body_start, content_in, give_bytes, is_bad, scan_bytes}
-use Rattle.cy_in.specs.Intakes.{Intake, after_read, ahead, has_content, is_whole, piece, taken_by, waiting as waits_in}
-use Rattle.cy_in.proofs.Choices.{tested, where_not, where_yes}
+use Rattle.cy_in.specs.Intakes.{Intake, after_read, has_content, is_whole, piece, taken_by, waiting as waits_in}
+use Rattle.cy_in.proofs.Choices.{where_not, where_yes}
 use Rattle.cy_in.proofs.Counting.{content_counted, counts_bytes}
 use Rattle.cy_in.proofs.Gives.{given_is}
 use Rattle.cy_in.specs.Laws.{IsGiven}
 use Rattle.cy_model.specs.Folds.{bytes_of, is_open, last_taken}
 use Rattle.cy_model.specs.Inputs.{behind_head, body_by, consumed_by, given_count, has_bad_body, has_whole_body, is_end_told, scan_by, scan_of, unread, used, used_at_end, used_by_given, waiting, waiting_of}
 use Rattle.cy_model.specs.Marks.{TakenUp, Trace, given, end_given}
-use Rattle.cy_proc.specs.LineBodies.{IsAllGiven, IsGivenWithin, IsSoundInput, given_mark, intake_of, max_trailer_by, passed_from, used_mark}
+use Rattle.cy_proc.specs.LineBodies.{IsGivenWithin, IsSoundInput, given_mark, intake_of, max_trailer_by, passed_from, used_mark}
 use Rattle.cy_proc.specs.LineChanges.{read_line}
-use Rattle.cy_proc.specs.Lines.{LineParts, line_parts}
+use Rattle.cy_proc.specs.Lines.{line_parts}
 use Rattle.cy_proc.proofs.Given.{Behind, behind, both, short_piece}
-use Rattle.cy_proc.proofs.Intakes.{used_is, used_within, waits_fewer}
+use Rattle.cy_proc.proofs.Intakes.{used_is, waits_fewer}
 use Rattle.cy_proc.proofs.LineInputs.{open_taken, over_waits}
 
 both_ways : (v : Bool) → v ≡ true → v ≡ false → ⊥

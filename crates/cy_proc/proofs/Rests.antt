@@ -1,18 +1,16 @@
 -- Resting, where nothing unbuilt stands: the first cause that the body or the end of the input is, and nothing where there
 -- is a cause already.
-use Rattle.std.proofs.Common.{◌≡◌, ◌≤◌, ◌<◌, ℕ, ◌+◌, ◌-◌, Bool, true, false, not, ◌&&◌, ◌||◌, nat_le, nat_lt, leb-true, ltb-true, List, [], ◌∷◌, length, Option, Some, None, is_none, is_some, option_map, refl, sym, ap, ◌∙◌, subst, arith, if◌then◌else◌}
+use Rattle.std.proofs.Common.{◌≡◌, ◌≤◌, ℕ, ◌+◌, ◌-◌, Bool, true, false, not, ◌&&◌, ◌||◌, nat_le, nat_lt, leb-true, ltb-true, [], ◌∷◌, Option, Some, None, is_none, is_some, option_map, refl, sym, ap, ◌∙◌, subst, arith, if◌then◌else◌}
 use Rattle.std.specs.Prelude.{unwrap_or}
-use Rattle.cy_event.specs.declared.body.BodyStage.{BodyStage}
 use Rattle.cy_event.specs.declared.limits.Limits.{Limits}
 use Rattle.cy_event.specs.declared.steps.CloseCause.{CloseCause}
 use Rattle.cy_event.specs.declared.steps.CloseCause.TheVariants.{BadBody, InputEnd, SwallowLimit}
-use Rattle.cy_event.specs.Bodies.{is_bad}
 use Rattle.cy_in.specs.Intakes.{swallowed as swallowed_in}
-use Rattle.cy_model.specs.Endings.{fault_marks_by, hears_fault}
+use Rattle.cy_model.specs.Endings.{fault_marks_by}
 use Rattle.cy_model.specs.Folds.{bytes_of, cause_of, earlier, has_ended, is_open, last_taken}
 use Rattle.cy_model.specs.Inputs.{given_count, has_bad_body, has_whole_body, is_end_told, scan_by, scan_of, swallowed, used, used_at_end, used_by_given}
-use Rattle.cy_model.specs.Marks.{Mark, TakenUp, Trace, caused}
-use Rattle.cy_model.specs.Settling.{Move, after_move, bad_place, body_cause, body_cause_by, end_move, first_move, front_of, is_awaited, may_begin, quiet_step, rested, swallow_place}
+use Rattle.cy_model.specs.Marks.{TakenUp, Trace, caused}
+use Rattle.cy_model.specs.Settling.{after_move, bad_place, body_cause, body_cause_by, end_move, first_move, front_of, is_awaited, may_begin, quiet_step, rested, swallow_place}
 use Rattle.cy_model.specs.Unbuilt.{is_unbuilt_cause}
 use Rattle.cy_model.proofs.Built.{IsPlain, hears_none, mark_plain, plain_return}
 use Rattle.cy_model.proofs.Gone.{may_not_begin, no_end}

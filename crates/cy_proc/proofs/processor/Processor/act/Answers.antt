@@ -10,7 +10,8 @@ use Rattle.cy_proc.specs.Lines.{LineParts}
 use Rattle.cy_proc.specs.ProcessorAnswers.{Answers, IsReadInto}
 use Rattle.cy_proc.specs.ProcessorChanges.{line_read}
 use Rattle.cy_proc.specs.Processors.{ProcessorParts, is_open_at}
-use Rattle.cy_proc.proofs.ActParts.{return_answers, write_by}
+use Rattle.cy_proc.proofs.ActParts.{write_by}
+use Rattle.cy_proc.proofs.ReturnParts.{return_answers}
 use Rattle.cy_proc.proofs.ReadParts.{gives_into, read_buffer, read_moment, read_open, read_work}
 use Rattle.cy_proc.proofs.processor.Processor.act.Goals as goal
 
