@@ -49,6 +49,7 @@ pub mod TakesRows
 pub mod SwallowRows
 pub mod ReadRows
 pub mod BodyRows
+pub mod ReportRows
 pub mod PassedRows
 pub mod TickRows
 pub mod ConstantRows
