@@ -37,6 +37,9 @@ came bytes = step.On 1 event.In bytes
 abbrev wrote : List ℕ → Step
 wrote bytes = step.Act 1 (act.Write (length bytes)) bytes
 
+abbrev asked : ℕ → Step
+asked n = step.Act 1 (act.Read n) []
+
 abbrev returned : Step
 returned = step.Act 1 act.Return []
 
@@ -79,6 +82,12 @@ two_heads : report (standard 1) one_rule (step.Admit 1 ∷ came (get ++ get) ∷
     ≡ codes "1 Entered\n2 Taken 54\n3 Begun service 0\n4 Taken 1\n5 Done\n6 Begun service 0\n7 Done\n8 Done\n9 Idle\nconn 1 InputEnd took 0 of 147\nout \"HTTP/1.1 200 \\r\\nContent-Length: 1\\r\\nDate: Thu, 01 Jan 1970 00:00:00 GMT\\r\\n\\r\\naHTTP/1.1 200 \\r\\nContent-Length: 0\\r\\nDate: Thu, 01 Jan 1970 00:00:00 GMT\\r\\n\\r\\n\"\nchart 1 1 Run Return\nchart 1 2 Run Return\n"
 unfolding report reply_line reply_text chart_line connection_text after reply_to settled rested verdict_of target_of framed quoted head_text date_at count_off is_name_byte trimmed front_length whole_head host_fits head_of is_utf8 digits chars encode
 two_heads = refl
+
+-- a body in chunks comes in two pieces, and is read in two and to its end
+body_in_chunks : report (standard 1) one_rule (step.Admit 1 ∷ came (codes "POST / HTTP/1.1\r\nHost: a\r\nTransfer-Encoding: chunked\r\n\r\n3\r\nabc\r\n") ∷ step.Run 1 ∷ asked 2 ∷ came (codes "0\r\n\r\n") ∷ asked 9 ∷ asked 9 ∷ wrote (codes "ok") ∷ returned ∷ step.On 1 (event.Took 100) [] ∷ [])
+    ≡ codes "1 Entered\n2 Taken 64\n3 Begun service 0\n4 Got \"ab\"\n5 Taken 5\n6 Got \"c\"\n7 GotEnd\n8 Taken 2\n9 Done\n10 Taken 75\nconn 1 open took 75 of 75\nout \"HTTP/1.1 200 \\r\\nContent-Length: 2\\r\\nDate: Thu, 01 Jan 1970 00:00:00 GMT\\r\\n\\r\\nok\"\nchart 1 1 Run Return\n"
+unfolding report reply_line reply_text chart_line connection_text after reply_to settled rested verdict_of target_of framed quoted head_text date_at count_off is_name_byte trimmed front_length whole_head host_fits head_of is_utf8 digits chars encode
+body_in_chunks = refl
 
 -- no rule serves the path
 not_found : report (standard 1) [] (step.Admit 1 ∷ came get ∷ step.Run 1 ∷ returned ∷ [])

@@ -1,7 +1,7 @@
 -- What is kept of a body stands in the bytes that wait, whatever a call does with it.
-use Rattle.std.proofs.Common.{◌≡◌, ◌≤◌, ℕ, ◌+◌, ◌-◌, Bool, true, false, List, length, drop, take, min, refl, sym, subst, ap, arith, length-drop, length-take, if◌then◌else◌}
+use Rattle.std.proofs.Common.{◌≡◌, ◌≤◌, ℕ, ◌+◌, ◌-◌, true, false, List, length, drop, take, min, refl, sym, subst, ap, arith, length-drop, length-take, if◌then◌else◌}
 use Rattle.cy_event.specs.declared.body.BodyMark.{BodyMark}
-use Rattle.cy_event.specs.Bodies.{give_bytes, scan_bytes}
+use Rattle.cy_event.specs.Bodies.{give_bytes}
 use Rattle.cy_event.specs.declared.framing.Framing.{Framing}
 use Rattle.cy_in.specs.Intakes.{Intake, after_read, after_scan, after_swallow, ahead, has_content, is_whole, piece, started, taken_by, waiting}
 use Rattle.cy_in.proofs.Counting.{counts_bytes}

@@ -1,5 +1,5 @@
 -- What a trace says of the body of its last request, as an intake: it goes on as bytes come.
-use Rattle.std.proofs.Common.{◌≡◌, ◌≤◌, ℕ, ◌+◌, ◌-◌, Bool, true, false, not, ◌&&◌, List, [], ◌∷◌, ◌++◌, length, drop, take, Option, Some, None, refl, sym, ap, ◌∙◌, subst, arith, length-drop, if◌then◌else◌}
+use Rattle.std.proofs.Common.{◌≡◌, ◌≤◌, ℕ, ◌+◌, ◌-◌, Bool, true, false, not, ◌&&◌, List, ◌∷◌, ◌++◌, length, drop, take, Option, Some, None, refl, sym, ap, ◌∙◌, arith, length-drop, if◌then◌else◌}
 use Rattle.std.specs.Prelude.{unwrap_or}
 use Rattle.std.proofs.Math.Seq.{drop-append_seam}
 use Rattle.std.proofs.lemmas.List.{drop-append-le, drop-drop, take-append-drop}
@@ -7,8 +7,8 @@ use Rattle.cy_event.specs.declared.body.BodyMark.{BodyMark}
 use Rattle.cy_event.specs.declared.body.BodyStage.{BodyStage}
 use Rattle.cy_event.specs.declared.body.BodyStage.TheVariants as stage
 use Rattle.cy_event.specs.declared.framing.Framing.TheVariants as framing
-use Rattle.cy_event.specs.Bodies.{body_start, Given, content_in, first_stage, give_bytes, is_over, scan_bytes}
-use Rattle.cy_in.specs.Intakes.{Intake, after_scan, after_swallow, ahead}
+use Rattle.cy_event.specs.Bodies.{body_start, Given, first_stage, give_bytes, is_over, scan_bytes}
+use Rattle.cy_in.specs.Intakes.{after_scan, after_swallow, ahead}
 use Rattle.cy_in.proofs.Choices.{tested}
 use Rattle.cy_in.proofs.Counting.{counts_bytes}
 use Rattle.cy_in.proofs.Gives.{given_is}
@@ -56,9 +56,9 @@ rest_scanned max (Some r) bytes more n within =
     tested (is_over m.stage) (scan_bytes max m (drop (m.raw - n) (drop (consumed_by (Some r) n) bytes ++ more)) ≡ scan_bytes max m more)
     (λ over. over_scan max m (drop (m.raw - n) (drop (consumed_by (Some r) n) bytes ++ more)) over ∙ sym (over_scan max m more over))
     (λ on.
-      let all = scan_counts r bytes on in
-      ap (λ (k : ℕ). scan_bytes max m (drop (k - n) (drop (consumed_by (Some r) n) bytes ++ more))) all
-      ∙ ap (scan_bytes max m) (new_alone r bytes more n (omega (arith, within, all))))
+    let all = scan_counts r bytes on in
+    ap (λ (k : ℕ). scan_bytes max m (drop (k - n) (drop (consumed_by (Some r) n) bytes ++ more))) all
+    ∙ ap (scan_bytes max m) (new_alone r bytes more n (omega (arith, within, all))))
 
 -- ---- what is used up
 
@@ -88,7 +88,7 @@ given_raw (Some r) bytes n = refl
 pub used_is : (T : Trace) → used T ≡ (used_mark T).raw
 used_is T =
     elim (is_open T && not (is_end_told T)) as (λ v. (if v then used_by_given (last_taken T) (bytes_of T) (given_count T) else (scan_of T).raw)
-      ≡ (if v then given_mark (last_taken T) (bytes_of T) (given_count T) else scan_of T).raw) [
+    ≡ (if v then given_mark (last_taken T) (bytes_of T) (given_count T) else scan_of T).raw) [
       | true ↦ given_raw (last_taken T) (bytes_of T) (given_count T)
       | false ↦ refl
     ]
@@ -183,7 +183,7 @@ pub used_stays : (t : ℕ) (b : List ℕ) (T : Trace) → IsSoundInput T → is_
 used_stays t b T s o =
     elim (is_end_told T) as (λ v. is_end_told T ≡ v → used_mark ((t, came b) ∷ T) ≡ used_mark T) [
       | true ↦ λ told.
-          let over = whole_over (scan_of T).stage (s.told o told) in
+          let over = whole_over (scan_of T).stage (s.told o told).0 in
           (λ i. if o i && not (told i) then given_mark (last_taken T) (bytes_of T ++ b) (given_count T) else scan_of ((t, came b) ∷ T))
           ∙ told_stays t b T s.heads_came over
           ∙ sym (λ i. if o i && not (told i) then given_mark (last_taken T) (bytes_of T) (given_count T) else scan_of T)

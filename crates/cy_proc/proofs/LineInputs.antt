@@ -1,14 +1,14 @@
 -- What a line keeps of its input, as bytes come, a head is taken up, and a request ends: each is what the trace says.
-use Rattle.std.proofs.Common.{◌≡◌, ◌≤◌, ℕ, ◌+◌, ◌-◌, Bool, true, false, ◌||◌, ◌==◌, List, [], ◌∷◌, ◌++◌, length, drop, Option, Some, None, is_some, refl, sym, ap, ◌∙◌, subst, arith, append-nil, length-append, length-drop, if◌then◌else◌}
+use Rattle.std.proofs.Common.{◌≡◌, ◌≤◌, ℕ, ◌+◌, ◌-◌, true, false, ◌||◌, ◌==◌, List, [], ◌∷◌, ◌++◌, length, drop, Option, Some, None, is_some, refl, sym, ap, ◌∙◌, subst, arith, append-nil, length-append, length-drop, if◌then◌else◌}
 use Rattle.std.specs.Prelude.{unwrap_or}
 use Rattle.std.proofs.lemmas.Bool.{eqb-true}
 use Rattle.std.proofs.lemmas.List.{drop-append-le, drop-drop}
 use Rattle.cy_event.specs.declared.body.BodyMark.{BodyMark}
-use Rattle.cy_event.specs.Bodies.{body_start, content_in, scan_bytes}
-use Rattle.cy_in.specs.Intakes.{Intake, after_scan, after_swallow, ahead, started, taken_by}
-use Rattle.cy_in.proofs.Joins.{content_join}
+use Rattle.cy_event.specs.Bodies.{Body, body_of, body_start, content_in, is_over, scan_bytes}
+use Rattle.cy_in.specs.Intakes.{Intake, after_swallow, ahead, taken_by}
+use Rattle.cy_in.proofs.Joins.{content_join, settled_body}
 use Rattle.cy_model.specs.Folds.{begun_count, bytes_of, is_open, last_taken}
-use Rattle.cy_model.specs.Inputs.{behind_head, consumed, consumed_by, is_whole, scan_by, scan_of, unread, used, used_at_end}
+use Rattle.cy_model.specs.Inputs.{behind_head, body_by, consumed, given_count, head_end, consumed_by, is_whole, scan_by, scan_of, unread, used, used_at_end, waiting_of}
 use Rattle.cy_model.specs.Marks.{TakenUp, Trace, began, came, over}
 use Rattle.cy_proc.specs.LineBodies.{IsGivenWithin, IsSoundInput, intake_of, max_trailer_by, passed_from, used_mark}
 use Rattle.cy_proc.specs.LineChanges.{after_begin, gone_on, passed_line, scanned_line, with_more}
@@ -34,6 +34,13 @@ open_taken ((t, over) ∷ T) e = cc
 open_taken ((t, m) ∷ T) e = open_taken T e
 
 -- ---- bytes come
+
+-- a body that is over stays what it is
+body_stays : (o : Option TakenUp) (bytes more : List ℕ) → head_end o ≤ length bytes → is_over (scan_by o bytes).stage ≡ true → body_by o (bytes ++ more) ≡ body_by o bytes
+body_stays None bytes more within ended = refl
+body_stays (Some r) bytes more within ended =
+    ap (body_of r.max_trailer r.framing) (drop-append-le (r.place + r.size) bytes more within)
+    ∙ settled_body r.max_trailer r.framing (behind_head bytes r) more ended
 
 module _ (t m : ℕ) (b : List ℕ) (T : Trace) (s : IsSoundInput T) where
   abbrev Came : Trace
@@ -88,16 +95,23 @@ module _ (t m : ℕ) (b : List ℕ) (T : Trace) (s : IsSoundInput T) where
       let start = body_start r.framing in
       let behind = drop-append-le (r.place + r.size) (bytes_of T) b within in
       let split = ap (content_in r.max_trailer start) behind ∙ content_join r.max_trailer start (behind_head (bytes_of T) r) b in
-      omega (arith, enough, ap length split,
-        length-append (content_in r.max_trailer start (behind_head (bytes_of T) r)) (content_in r.max_trailer (scan_bytes r.max_trailer start (behind_head (bytes_of T) r)) b))
+      omega (
+        arith,
+        enough,
+        ap length split,
+        length-append (content_in r.max_trailer start (behind_head (bytes_of T) r)) (content_in r.max_trailer (scan_bytes r.max_trailer start (behind_head (bytes_of T) r)) b),
+      )
 
   pub came_input : IsSoundInput Came
   came_input = record {
     heads_came = omega (arith, s.heads_came, more_came);
     given = given_more (last_taken T) _ s.given refl;
     told = λ o told.
-        let whole = s.told o told in
-        ap (λ (k : BodyMark). is_whole k.stage) (told_stays t b T s.heads_came (whole_over (scan_of T).stage whole)) ∙ whole;
+        let all = s.told o told in
+        let ended = whole_over (scan_of T).stage all.0 in (
+          ap (λ (k : BodyMark). is_whole k.stage) (told_stays t b T s.heads_came ended) ∙ all.0,
+          ap (λ (k : Body). waiting_of k (given_count T)) (body_stays (last_taken T) (bytes_of T) b s.heads_came ended) ∙ all.1,
+        );
   }
 
 -- ---- a head is taken up
@@ -150,7 +164,7 @@ module _ (m : ℕ) (T : Trace) (open_now : is_open T ≡ true) where
       let from = over_from (last_taken T) (used_at_end T) (open_taken T open_now) in
       λ i. record { scanned = scanned i; taken = scanned i; max_trailer = max_trailer_by (last_taken T); swallowed_from = from i }
 
-  over_waits : (o : Option TakenUp) → is_some o ≡ true → drop ((scan_of T).raw - used T) (drop (consumed_by o (used T)) (bytes_of T)) ≡ drop (consumed_by o (scan_of T).raw) (bytes_of T)
+  pub over_waits : (o : Option TakenUp) → is_some o ≡ true → drop ((scan_of T).raw - used T) (drop (consumed_by o (used T)) (bytes_of T)) ≡ drop (consumed_by o (scan_of T).raw) (bytes_of T)
   over_waits None some = cc
   over_waits (Some r) some = waits_fewer r (bytes_of T) (used T) (scan_of T).raw (omega (arith, used_is T, used_within T))
 

@@ -1,12 +1,9 @@
 -- A head that is taken up or refused: the parts that follow stand for the trace that follows.
-use Rattle.std.proofs.Common.{◌≡◌, ◌≤◌, inl, ℕ, ◌+◌, ◌<◌, ◌++◌, Bool, true, false, not, ◌&&◌, ◌||◌, leb, List, [], ◌∷◌, length, map, Option, Some, None, is_none, refl, sym, ap, ◌∙◌, subst, arith, length-drop, length-append, length-take, take, codes, bytes_eq, if◌then◌else◌}
+use Rattle.std.proofs.Common.{◌≡◌, ◌≤◌, inl, ℕ, ◌+◌, ◌++◌, Bool, true, false, not, ◌&&◌, List, [], ◌∷◌, length, map, Some, None, refl, sym, ap, ◌∙◌, subst, arith, codes, bytes_eq, if◌then◌else◌}
 use Rattle.std.proofs.lemmas.Bool.{and_parts}
 use Rattle.std.proofs.lemmas.List.{append-nil}
 use Rattle.cy_event.specs.declared.limits.Limits.{Limits}
-use Rattle.cy_event.specs.declared.steps.Event.{Event}
-use Rattle.cy_event.specs.declared.steps.Event.TheVariants as event
-use Rattle.cy_event.specs.declared.steps.CloseCause.{CloseCause}
-use Rattle.cy_event.specs.declared.steps.CloseCause.TheVariants.{InputEnd, Refused}
+use Rattle.cy_event.specs.declared.steps.CloseCause.TheVariants.{Refused}
 use Rattle.cy_event.specs.Answers.{Answer, error_answer as error_answer_of, fresh_answer}
 use Rattle.cy_event.specs.Charts.{chart_of}
 use Rattle.cy_event.specs.Framings.{Framed, bad_request}
@@ -21,9 +18,9 @@ use Rattle.cy_map.specs.declared.rule.Rule.{Rule}
 use Rattle.cy_event.specs.Answering.{beginning}
 use Rattle.cy_model.specs.Folds.{begun_count, calls, cause_of, ended_charts, is_open}
 use Rattle.cy_model.specs.Inputs.{consumed, unread}
-use Rattle.cy_model.specs.Outputs.{asked_of, unsent}
+use Rattle.cy_model.specs.Outputs.{asked_of}
 use Rattle.cy_model.specs.Marks.{Mark, began, refused, error_answer, over, caused, TakenUp, Trace}
-use Rattle.cy_model.specs.Settling.{Due, nothing, refusal, not_found, request, due_by_front, due_by_verdict, due_move, due_of, front_of, is_awaited, is_last_number, last_answer_marks, may_begin, may_begin_by, begin_bound, rested, taken_up, with_marks, after_move}
+use Rattle.cy_model.specs.Settling.{Due, nothing, refusal, not_found, request, due_by_front, due_by_verdict, due_move, due_of, front_of, is_awaited, is_last_number, last_answer_marks, may_begin, rested, taken_up, with_marks, after_move}
 use Rattle.cy_model.specs.Unbuilt.{is_unbuilt_request}
 use Rattle.cy_model.specs.Verdicts.{Verdict, turned_away, unserved, served, is_head_method, not_found_status, verdict_of}
 use Rattle.cy_model.proofs.Moves.{may_begin-parts}
@@ -32,15 +29,16 @@ use Rattle.cy_target.specs.Kept.{with_target}
 use Rattle.cy_proc.specs.Judging.{IsVerdict}
 use Rattle.cy_proc.specs.declared.verdict.Judgement.TheVariants as judged
 use Rattle.cy_proc.specs.Lines.{LineParts, Represents}
-use Rattle.cy_proc.specs.LineChanges.{after_begin, after_end_of, after_event, after_refusal, after_rest, after_told, ends_at_rest, front_at, is_closed_line, is_due, causes_left, may_begin_line, room_of, work_of}
+use Rattle.cy_proc.specs.LineChanges.{after_begin, after_end_of, after_refusal, after_rest, is_due}
 use Rattle.cy_proc.specs.ProcessorAnswers.{Serves, ServesAfter, TakesUp, ended_items}
 use Rattle.cy_proc.specs.ProcessorChanges.{due_at, due_of_head, line_with, processor_with, with_request}
 use Rattle.cy_proc.specs.Processors.{IsIdle, IsOfRequest, IsServiceAlone, ProcessorParts, RequestFolds, StandsForRequest, fresh_processor, is_open_at, request_folds, service_by, stage_by, uncut, waiting_content}
 use Rattle.cy_proc.specs.declared.processor.Stage.TheVariants as stage
 use Rattle.cy_proc.proofs.Built.{IsBuiltDue, built_more, due_built}
-use Rattle.cy_proc.proofs.Lines.{Holds, began_held, holds, marks_by, over_stands, plainly, refused_stands, rest_moment, rest_stands, same_input}
+use Rattle.cy_proc.proofs.Lines.{Holds, began_held, holds, marks_by, plainly, refused_stands, rest_moment, rest_stands, same_input}
+use Rattle.cy_proc.proofs.Ends.{over_stands}
 use Rattle.cy_proc.proofs.Requests.{head_kept, rested_same, stands_idle, stands_same}
-use Rattle.cy_proc.proofs.ActParts.{ended_serves, over_ends}
+use Rattle.cy_proc.proofs.ReturnParts.{ended_serves, over_ends}
 
 -- ---- what the code does
 

@@ -1,5 +1,5 @@
 -- What parts say of the last request is what the trace says for which they stand.
-use Rattle.std.proofs.Common.{◌≡◌, inl, inr, ℕ, Bool, true, false, cond, List, [], ◌∷◌, ◌++◌, map, take, Option, Some, None, is_some, refl, sym, ap, ◌∙◌, subst, ◌||◌, if◌then◌else◌}
+use Rattle.std.proofs.Common.{◌≡◌, inl, inr, ℕ, Bool, true, false, cond, List, [], ◌++◌, map, take, Option, Some, None, is_some, refl, sym, ap, ◌∙◌, subst, ◌||◌}
 use Rattle.std.proofs.lemmas.List.{append-nil}
 use Rattle.cy_event.specs.declared.limits.Limits.{Limits}
 use Rattle.cy_event.specs.declared.steps.CloseCause.{CloseCause}
@@ -15,7 +15,7 @@ use Rattle.cy_event.specs.Table.{state_after}
 use Rattle.cy_model.specs.Entries.{event_marks, is_closed_to, rested_event, sent_of}
 use Rattle.cy_model.specs.Folds.{cause_of, ended_charts, is_open, is_served, part_of}
 use Rattle.cy_model.specs.Inputs.{room}
-use Rattle.cy_model.specs.Marks.{TakenUp, came, sent, ended, caused, Trace}
+use Rattle.cy_model.specs.Marks.{TakenUp, came, sent, ended, Trace}
 use Rattle.cy_states.specs.Progress.{Progress}
 use Rattle.cy_model.specs.Settling.{rested, with_marks}
 use Rattle.cy_model.proofs.Built.{IsPlain, mark_plain}
@@ -59,7 +59,7 @@ told_same t event.In b T = record { folds = refl; charts = refl }
 told_same t event.End b T = record { folds = refl; charts = refl }
 told_same t (event.Took n) b T = record { folds = refl; charts = refl }
 
-joined : (T R S : Trace) → SameRequests T R → SameRequests R S → SameRequests T S
+pub joined : (T R S : Trace) → SameRequests T R → SameRequests R S → SameRequests T S
 joined T R S first second = record { folds = second.folds ∙ first.folds; charts = second.charts ∙ first.charts }
 
 told_plain : (t : ℕ) (e : Event) (b : List ℕ) (T : Trace) → IsPlain T → IsPlain (with_marks t (event_marks T e b) T)

@@ -1,18 +1,16 @@
 -- Resting, where nothing unbuilt stands: the first cause that the body or the end of the input is, and nothing where there
 -- is a cause already.
-use Rattle.std.proofs.Common.{◌≡◌, ◌≤◌, ◌<◌, ℕ, ◌+◌, ◌-◌, Bool, true, false, not, ◌&&◌, ◌||◌, nat_le, nat_lt, leb-true, ltb-true, List, [], ◌∷◌, length, Option, Some, None, is_none, is_some, option_map, refl, sym, ap, ◌∙◌, subst, arith, if◌then◌else◌}
+use Rattle.std.proofs.Common.{◌≡◌, ◌≤◌, ℕ, ◌+◌, ◌-◌, Bool, true, false, not, ◌&&◌, ◌||◌, nat_le, nat_lt, leb-true, ltb-true, [], ◌∷◌, Option, Some, None, is_none, is_some, option_map, refl, sym, ap, ◌∙◌, subst, arith, if◌then◌else◌}
 use Rattle.std.specs.Prelude.{unwrap_or}
-use Rattle.cy_event.specs.declared.body.BodyStage.{BodyStage}
 use Rattle.cy_event.specs.declared.limits.Limits.{Limits}
 use Rattle.cy_event.specs.declared.steps.CloseCause.{CloseCause}
 use Rattle.cy_event.specs.declared.steps.CloseCause.TheVariants.{BadBody, InputEnd, SwallowLimit}
-use Rattle.cy_event.specs.Bodies.{is_bad}
 use Rattle.cy_in.specs.Intakes.{swallowed as swallowed_in}
-use Rattle.cy_model.specs.Endings.{fault_marks_by, hears_fault}
+use Rattle.cy_model.specs.Endings.{fault_marks_by}
 use Rattle.cy_model.specs.Folds.{bytes_of, cause_of, earlier, has_ended, is_open, last_taken}
 use Rattle.cy_model.specs.Inputs.{given_count, has_bad_body, has_whole_body, is_end_told, scan_by, scan_of, swallowed, used, used_at_end, used_by_given}
-use Rattle.cy_model.specs.Marks.{Mark, TakenUp, Trace, caused}
-use Rattle.cy_model.specs.Settling.{Move, after_move, bad_place, body_cause, body_cause_by, end_move, first_move, front_of, is_awaited, may_begin, quiet_step, rested, swallow_place}
+use Rattle.cy_model.specs.Marks.{TakenUp, Trace, caused}
+use Rattle.cy_model.specs.Settling.{after_move, bad_place, body_cause, body_cause_by, end_move, first_move, front_of, is_awaited, may_begin, quiet_step, rested, swallow_place}
 use Rattle.cy_model.specs.Unbuilt.{is_unbuilt_cause}
 use Rattle.cy_model.proofs.Built.{IsPlain, hears_none, mark_plain, plain_return}
 use Rattle.cy_model.proofs.Gone.{may_not_begin, no_end}
@@ -73,7 +71,7 @@ now_built limits T k e = pick_built (body_cause limits T) (ends_inside T) (ends_
 
 picked : (t : ℕ) (T : Trace) (o : Option CloseCause) (inside awaits : Bool)
     → after_move t T (first_move (option_map (λ k. caused k ∷ []) o ∷ (if inside then Some (caused InputEnd ∷ []) else None) ∷ None
-        ∷ (if awaits then Some (caused InputEnd ∷ []) else None) ∷ []))
+    ∷ (if awaits then Some (caused InputEnd ∷ []) else None) ∷ []))
     ≡ option_map (λ k. (t, caused k) ∷ T) (pick o inside awaits)
 picked t T (Some k) inside awaits = refl
 picked t T None true awaits = refl
@@ -86,9 +84,9 @@ quiet_now limits t T p none =
     let hears = hears_none T p in
     let back = plain_return T p in
     (λ i. after_move t T (first_move (
-      (if is_none (none i) then option_map (λ k. caused k ∷ fault_marks_by (hears i)) (body_cause limits T) else None)
-      ∷ (if is_none (none i) && ends_inside T then Some (caused InputEnd ∷ fault_marks_by (hears i)) else None)
-      ∷ back i ∷ end_move limits T ∷ [])))
+    (if is_none (none i) then option_map (λ k. caused k ∷ fault_marks_by (hears i)) (body_cause limits T) else None)
+    ∷ (if is_none (none i) && ends_inside T then Some (caused InputEnd ∷ fault_marks_by (hears i)) else None)
+    ∷ back i ∷ end_move limits T ∷ [])))
     ∙ picked t T (body_cause limits T) (ends_inside T) (ends_now limits T)
 
 quiet_closed : (limits : Limits) (t : ℕ) (T : Trace) → IsPlain T → is_some (cause_of T) ≡ true → quiet_step limits t T ≡ None
@@ -98,9 +96,9 @@ quiet_closed limits t T p set =
     let none = some_isnt_none (cause_of T) set in
     let awaits = no_end limits T (may_not_begin T set) in
     λ i. after_move t T (first_move (
-      (if none i then option_map (λ k. caused k ∷ fault_marks_by (hears i)) (body_cause limits T) else None)
-      ∷ (if none i && ends_inside T then Some (caused InputEnd ∷ fault_marks_by (hears i)) else None)
-      ∷ back i ∷ awaits i ∷ []))
+    (if none i then option_map (λ k. caused k ∷ fault_marks_by (hears i)) (body_cause limits T) else None)
+    ∷ (if none i && ends_inside T then Some (caused InputEnd ∷ fault_marks_by (hears i)) else None)
+    ∷ back i ∷ awaits i ∷ []))
   where
     some_isnt_none : (o : Option CloseCause) → is_some o ≡ true → is_none o ≡ false
     some_isnt_none None e = cc
@@ -149,8 +147,14 @@ swallowed_most T = elim (is_open T) as (λ v. (if v then 0 else used T - used_at
 later_place : (limits : Limits) (T : Trace) → nat_lt limits.max_swallow (swallowed T) ≡ true → nat_le (scan_of T).raw (used_at_end T + limits.max_swallow) ≡ false
 later_place limits T long =
     elim (nat_le (scan_of T).raw (used_at_end T + limits.max_swallow)) as (λ v. nat_le (scan_of T).raw (used_at_end T + limits.max_swallow) ≡ v → v ≡ false) [
-      | true ↦ λ q. absurd (omega (arith, leb-true (scan_of T).raw (used_at_end T + limits.max_swallow) q, ltb-true limits.max_swallow (swallowed T) long,
-        swallowed_most T, used_is T, used_within T))
+      | true ↦ λ q. absurd (omega (
+        arith,
+        leb-true (scan_of T).raw (used_at_end T + limits.max_swallow) q,
+        ltb-true limits.max_swallow (swallowed T) long,
+        swallowed_most T,
+        used_is T,
+        used_within T,
+      ))
       | false ↦ λ q. refl
     ] refl
 
@@ -166,7 +170,7 @@ ended_by true true false awaits = refl
 pub at_rest_is : (limits : Limits) (m : ℕ) (T : Trace) → cause_at_rest limits (line_parts m T) ≡ cause_now limits T
 at_rest_is limits m T =
     ap (λ (n : ℕ). if nat_lt limits.max_swallow n then Some SwallowLimit else if has_bad_body T then Some BadBody
-      else if ends_at_rest limits (line_parts m T) then Some InputEnd else None) (swallowed_same T)
+    else if ends_at_rest limits (line_parts m T) then Some InputEnd else None) (swallowed_same T)
     ∙ by_tests (nat_lt limits.max_swallow (swallowed T)) (has_bad_body T) refl
   where
     by_tests : (v w : Bool) → nat_lt limits.max_swallow (swallowed T) ≡ v

@@ -1,11 +1,11 @@
 -- A head that has a framing frames a body of at most 2^62 bytes, where it has a length.
-use Rattle.std.proofs.Common.{◌≡◌, ◌≤◌, ℕ, Bool, true, false, ◌&&◌, not, ◌==◌, List, [], ◌∷◌, Result, Ok, Err, codes, refl, sym, ap, subst, ◌∙◌, reverse, arith, leb-true, if◌then◌else◌}
+use Rattle.std.proofs.Common.{◌≡◌, ℕ, true, false, ◌&&◌, not, ◌==◌, List, [], ◌∷◌, Result, Ok, Err, codes, refl, subst, reverse, leb-true, if◌then◌else◌}
 use Rattle.std.proofs.lemmas.Bool.{and_parts}
 use Rattle.std.specs.List.{list_all, list_any}
 use Rattle.std.specs.Prelude.{nat_le}
 use Rattle.std.specs.Str.Parse.{digits_value}
 use Rattle.cy_event.specs.declared.framing.Framing.{Framing}
-use Rattle.cy_event.specs.declared.framing.Framing.TheVariants.{None as no_body, Length, Chunked}
+use Rattle.cy_event.specs.declared.framing.Framing.TheVariants.{Length, Chunked}
 use Rattle.cy_event.specs.Framings.{Framed, awaits_continue, bad_request, body_framing, coding_framing, elements_of, expectation_failed, framed, framed_by, framing_by, framing_by_last, greatest_length, is_chunked, is_met, is_number, length_framing, not_implemented, persists}
 use Rattle.cy_event.specs.Heads.{Field, values_of}
 use Rattle.cy_in.specs.Intakes.{IsShort}

@@ -1,11 +1,11 @@
 -- What a trace says of the body of its last request, as an intake: how far it came, and what is used up of it.
-use Rattle.std.specs.Prelude.{◌≡◌, ◌≤◌, ℕ, ◌+◌, length, Bool, true, false, not, ◌&&◌, List, Option, Some, None, if◌then◌else◌}
+use Rattle.std.specs.Prelude.{◌≡◌, ◌≤◌, ℕ, ◌+◌, length, Bool, true, false, not, ◌&&◌, List, [], Option, Some, None, if◌then◌else◌}
 use Rattle.cy_event.specs.declared.body.BodyMark.{BodyMark}
 use Rattle.cy_event.specs.declared.framing.Framing.TheVariants as framing
 use Rattle.cy_event.specs.Bodies.{body_start, content_in, give_bytes}
 use Rattle.cy_in.specs.Intakes.{Intake}
 use Rattle.cy_model.specs.Folds.{bytes_of, is_open, last_taken}
-use Rattle.cy_model.specs.Inputs.{behind_head, given_count, has_whole_body, head_end, is_end_told, scan_of, used_at_end}
+use Rattle.cy_model.specs.Inputs.{behind_head, given_count, has_whole_body, head_end, is_end_told, scan_of, used_at_end, waiting}
 use Rattle.cy_model.specs.Marks.{TakenUp, Trace}
 
 -- behind the shortest part of the body that holds so much content
@@ -47,9 +47,13 @@ abbrev pub IsGivenWithin : Option TakenUp → List ℕ → ℕ → Type 0
 IsGivenWithin None bytes n = Unit {0}
 IsGivenWithin (Some r) bytes n = n ≤ length (content_in r.max_trailer (body_start r.framing) (behind_head bytes r))
 
+-- the body is whole, and all of its content was given
+abbrev pub IsAllGiven : Trace → Type 0
+IsAllGiven T = (has_whole_body T ≡ true) × (waiting T ≡ [])
+
 -- The head of the last request stands in the bytes that came, and so does what was given of its body, whose end was told
--- where it is whole alone.
+-- only behind all of it.
 pub record IsSoundInput (T : Trace) : Type 0 where
   pub heads_came : head_end (last_taken T) ≤ length (bytes_of T)
   pub given : IsGivenWithin (last_taken T) (bytes_of T) (given_count T)
-  pub told : is_open T ≡ true → is_end_told T ≡ true → has_whole_body T ≡ true
+  pub told : is_open T ≡ true → is_end_told T ≡ true → IsAllGiven T

@@ -1,5 +1,5 @@
 -- What each thing that happens does to the parts of a processor and of the line of its connection.
-use Rattle.std.specs.Prelude.{ℕ, ◌+◌, Bool, ◌&&◌, not, List, [], ◌++◌, length, take, Option, Some, None, if◌then◌else◌, ◌==◌}
+use Rattle.std.specs.Prelude.{ℕ, ◌+◌, Bool, ◌&&◌, not, List, [], ◌++◌, length, take, drop, Option, Some, None, is_some, if◌then◌else◌, ◌==◌}
 use Rattle.cy_event.specs.declared.limits.Limits.{Limits}
 use Rattle.cy_event.specs.declared.steps.Call.TheVariants as call
 use Rattle.cy_event.specs.declared.steps.CloseCause.{CloseCause}
@@ -10,7 +10,8 @@ use Rattle.cy_event.specs.declared.steps.Reply.TheVariants as reply
 use Rattle.cy_event.specs.Answers.{Answer, after_put, error_answer, fresh_answer, takes}
 use Rattle.cy_event.specs.Framings.{bad_request}
 use Rattle.cy_event.specs.Heads.{Head}
-use Rattle.cy_in.specs.Intakes.{is_ready}
+use Rattle.cy_in.specs.Intakes.{content_read, is_ready}
+use Rattle.cy_in.specs.Reads.{reply_of_read}
 use Rattle.cy_map.specs.declared.rule.Rule.{Rule}
 use Rattle.cy_model.specs.Endings.{is_bad_request}
 use Rattle.cy_model.specs.Marks.{TakenUp}
@@ -104,6 +105,20 @@ answer_returned cause p = if is_bad_request cause then error_answer bad_request 
 abbrev pub line_returned : ProcessorParts → LineParts → LineParts
 line_returned p l = after_end_of p.keep p.table.head.minor (answer_returned l.cause p) l
 
--- the line after a read of at most n bytes; one that comes to nothing is no step
+-- The line after a read of at most n bytes. One that comes to nothing is no step, nor is one where there is a cause to close.
 abbrev pub line_read : Limits → ℕ → LineParts → LineParts
-line_read limits n l = if is_ready l.body then after_rest limits (read_line n l) else l
+line_read limits n l =
+    if is_some l.cause then l else if is_ready l.body then after_rest limits (read_line n l) else l
+
+abbrev pub read_reply : ℕ → LineParts → Reply
+read_reply n l = if is_some l.cause then reply.Closed else reply_of_read n l.body l.unread
+
+-- what a read gives of at most n bytes
+abbrev pub read_content : ℕ → LineParts → List ℕ
+read_content n l = if is_some l.cause then [] else content_read n l.body l.unread
+
+-- it stands at the front of the buffer, behind which nothing changes
+abbrev pub read_into : LineParts → List ℕ → List ℕ
+read_into l into =
+    let content = read_content (length into) l in
+    content ++ drop (length content) into

@@ -1,10 +1,8 @@
 //! One request's life: the head that was taken up, the callback that runs, and the answer.
-ghost use Rattle.std.specs.Prelude.{◌≡◌, ◌≤◌, ◌<◌, ◌+◌, ◌++◌, ℕ, [], drop, length, slice_get, max, false, true, Some, IfOk};
+ghost use Rattle.std.specs.Prelude.{◌≡◌, ◌≤◌, ◌<◌, ◌+◌, ℕ, [], length, slice_get, max, false, true, Some, is_some, IfOk, if◌then◌else◌};
 ghost use Rattle.cy_event.specs.declared.limits.TheConstants.{GREATEST_MOMENT};
 ghost use Rattle.cy_event.specs.declared.head.TheConstants.{HEAD_ROOM, FIELD_ROOM};
 ghost use Rattle.cy_head.specs.Answers.{just_read};
-ghost use Rattle.cy_in.specs.Intakes.{content_read};
-ghost use Rattle.cy_in.specs.Reads.{reply_of_read};
 ghost use Rattle.cy_model.specs.Entries.{job_reply};
 ghost use Rattle.cy_model.specs.Jobs.{next_job};
 ghost use Rattle.cy_model.specs.Marks.{Trace};
@@ -12,7 +10,7 @@ ghost use Rattle.cy_model.specs.Settling.{begin_bound};
 ghost use Rattle.cy_model.specs.Steps.{IsWithinBytes};
 ghost use Rattle.cy_proc.specs.LineChanges.{after_refusal, is_due, work_of};
 ghost use Rattle.cy_proc.specs.ProcessorAnswers.{AnswersEachAct, AnswersEachEvent, AnswersEachTurn, GivesInto, IsReadInto, Serves, TakesUpEach, is_ended};
-ghost use Rattle.cy_proc.specs.ProcessorChanges.{after_job, after_return, after_write, due_at, due_of_head, job_at, line_read, line_returned, line_with, processor_with, write_reply};
+ghost use Rattle.cy_proc.specs.ProcessorChanges.{after_job, after_return, after_write, due_at, due_of_head, job_at, line_read, line_returned, line_with, processor_with, read_into, read_reply, write_reply};
 ghost use Rattle.cy_proc.specs.Processors.{IsIdle, StandsForRequest, fresh_processor, has_request_at, is_free_at, is_open_at, is_over_at, part_at, request_folds};
 
 use crate::line::Line;
@@ -190,9 +188,8 @@ impl Processor {
             return Reply::NotActive;
         };
         match *act {
-            Act::Read(_) | Act::Write(_) if line.cause().is_some() => Reply::Closed,
             Act::Read(count) => self.read(line, &mut into[..count as usize]),
-            Act::Write(count) => self.write(&bytes[..count as usize]),
+            Act::Write(count) => self.write(line, &bytes[..count as usize]),
             Act::Return => {
                 self.finish(line);
                 line.rest(&self.limits);
@@ -371,14 +368,17 @@ impl Processor {
     }
 
     /// Gives content of the request to the front of `into`, as much as waits and fits. Where none waits it tells the end of
-    /// a whole body, and else that there is nothing yet, which is no step.
+    /// a whole body, and else that there is nothing yet, which is no step, nor is a read where there is a cause to close.
     fn read(&mut self, line: &mut Line, into: &mut [u8]) -> Reply
         requires line { line.old.is_open ≡ true }
-        ensures reply { result ≡ reply_of_read (length into.old) line.old.body line.old.unread }
-        ensures into { let content = content_read (length into.old) line.old.body line.old.unread in into.new ≡ content ++ drop (length content) into.old }
+        ensures reply { result ≡ read_reply (length into.old) line.old }
+        ensures into { into.new ≡ read_into line.old into.old }
         ensures line { line.new ≡ line_read self.old.limits (length into.old) line.old }
         ensures same { self.new ≡ self.old }
     {
+        if line.cause().is_some() {
+            return Reply::Closed;
+        }
         if !line.is_ready() {
             return Reply::Again;
         }
@@ -387,11 +387,15 @@ impl Processor {
         reply
     }
 
-    /// Puts content, as much as there is room for; `Again` where there is none and some is asked.
-    fn write(&mut self, bytes: &[u8]) -> Reply
-        ensures reply { result ≡ write_reply self.old (length bytes.now) }
-        ensures parts { self.new ≡ after_write (length bytes.now) bytes.now self.old }
+    /// Puts content, as much as there is room for; `Again` where there is none and some is asked. Where there is a cause to
+    /// close it is no step.
+    fn write(&mut self, line: &Line, bytes: &[u8]) -> Reply
+        ensures reply { result ≡ (if is_some line.now.cause then Reply.Closed else write_reply self.old (length bytes.now)) }
+        ensures parts { self.new ≡ (if is_some line.now.cause then self.old else after_write (length bytes.now) bytes.now self.old) }
     {
+        if line.cause().is_some() {
+            return Reply::Closed;
+        }
         let room = CONTENT_BUFFER - self.content.len();
         let count = bytes.len().min(room);
         if count == 0 && !bytes.is_empty() {

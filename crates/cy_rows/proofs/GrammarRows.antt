@@ -1,5 +1,5 @@
 -- How bodies are framed by their fields, and which texts are heads and bodies, line by line. Written down by hand.
-use Rattle.std.proofs.Common.{◌≡◌, ℕ, List, [], ◌∷◌, ◌++◌, Ok, Err, Result, codes, refl}
+use Rattle.std.proofs.Common.{◌≡◌, ℕ, List, [], ◌∷◌, ◌++◌, Ok, Err, Result, codes, refl, replicate}
 use Rattle.std.specs.Prelude.{map}
 use Rattle.cy_event.specs.declared.framing.Framing.{Framing}
 use Rattle.cy_event.specs.declared.framing.Framing.TheVariants as framing
@@ -86,6 +86,16 @@ old_codings : map (λ values. framing_of 0 values []) ((codes "chunked" ∷ []) 
     ≡ bad_request ∷ bad_request ∷ bad_request ∷ []
 unfolding framings_on_literals
 old_codings = refl
+
+-- any number of zeros may stand before it
+abbrev zeros : List ℕ
+zeros = replicate 40 48
+
+zeros_before_a_length : map (framing_of 1 [])
+    (((zeros ++ codes "7") ∷ []) ∷ (zeros ∷ []) ∷ ((zeros ++ codes "7") ∷ codes "7" ∷ []) ∷ [])
+    ≡ of_length 7 ∷ of_length 0 ∷ of_length 7 ∷ []
+unfolding framings_on_literals
+zeros_before_a_length = refl
 
 -- ---- heads
 
@@ -194,6 +204,25 @@ trailer_lines : map body (codes "0\r\nA:b c\r\nD:\r\n\r\nE" ∷ codes "0\r\n A:b
     ∷ bad (malformed_at 3) ∷ []
 unfolding bodies_on_literals
 trailer_lines = refl
+
+-- no blank stands before a size, and no digit behind a blank
+before_a_size : map body (codes " 1\r\n" ∷ codes "\t1\r\n" ∷ codes "1\r\na\r\n 0" ∷ codes ";" ∷ codes "\r\n" ∷ [])
+    ≡ bad (malformed_at 0) ∷ bad (malformed_at 0) ∷ bad (malformed_at 6) ∷ bad (malformed_at 0) ∷ bad (malformed_at 0)
+    ∷ []
+unfolding bodies_on_literals
+before_a_size = refl
+
+blanks_in_a_size : map body (codes "1 1\r\n" ∷ codes "1\t0" ∷ codes "0 \t0\r\n\r\n" ∷ codes "0 a" ∷ [])
+    ≡ bad (malformed_at 2) ∷ bad (malformed_at 2) ∷ bad (malformed_at 3) ∷ bad (malformed_at 2) ∷ []
+unfolding bodies_on_literals
+blanks_in_a_size = refl
+
+-- behind the CR of a trailer, and of the last line, LF alone
+line_ends_of_trailers : map body (codes "0\r\nA:b\rx" ∷ codes "0\r\nA:b\r\r" ∷ codes "0\r\nA:b\rC:d" ∷ codes "0\r\n\rx" ∷ codes "0\r\n\r\r" ∷ [])
+    ≡ bad (malformed_at 7) ∷ bad (malformed_at 7) ∷ bad (malformed_at 7) ∷ bad (malformed_at 4) ∷ bad (malformed_at 4)
+    ∷ []
+unfolding bodies_on_literals
+line_ends_of_trailers = refl
 
 -- the last chunk has the size 0, in any number of digits
 last_chunks : map body (codes "000\r\n\r\n" ∷ codes "00001\r\na\r\n0\r\n\r\n" ∷ codes "0\r\n" ∷ [])

@@ -58,7 +58,7 @@ fn with_connections(alloc: Global, count: u32) -> Result<Vec<u8>, Fail> {
 
 #[test]
 fn lines_of_the_form_are_read(rt: HostRuntime) -> Result<(), Fail> {
-    let table: [&[u8]; 21] = [
+    let table: [&[u8]; 20] = [
         // lines that say nothing
         b"",
         b"\n\n#\n# in 1 \"\n#admit 1\n",
@@ -80,7 +80,6 @@ fn lines_of_the_form_are_read(rt: HostRuntime) -> Result<(), Fail> {
         b"in 1 \"\"\nin 1 \" # \\\"\\\\\\x00\\xFf\"\n",
         b"out 1 0\nout 1 18446744073709551615\n",
         b"act 1 write \"\"\nact 1 write \"a\"\n",
-        b"act 1 read 0\nact 1 read 65536\n",
         // the last line feed may lack
         b"admit 1",
         b"set maxHeaderCount 5\nadmit 1\nin 1 \"a\"",
@@ -183,7 +182,7 @@ fn settings_and_rules_of_another_form_are_refused(rt: HostRuntime) -> Result<(),
 
 #[test]
 fn steps_of_another_form_are_refused(rt: HostRuntime) -> Result<(), Fail> {
-    let table: [&[u8]; 49] = [
+    let table: [&[u8]; 40] = [
         // words, and what ends a line
         b" ",
         b" # a",
@@ -207,15 +206,6 @@ fn steps_of_another_form_are_refused(rt: HostRuntime) -> Result<(), Fail> {
         b"act 1 write",
         b"act 1 write ",
         b"act 1  write \"\"",
-        b"act 1 read",
-        b"act 1 read ",
-        b"act 1 read 1 ",
-        b"act 1 read 1 1",
-        b"act 1 read \"a\"",
-        b"act 1 read 01",
-        b"act 1 read 65537",
-        b"act 1 read 4294967297",
-        b"act 1 reads 1",
         b"return 1 ",
         // numbers that are none
         b"run 01",
@@ -311,7 +301,7 @@ fn rules_have_their_parts(rt: HostRuntime) -> Result<(), Fail> {
 fn steps_have_their_bytes(rt: HostRuntime) -> Result<(), Fail> {
     let text = behind_first_line(
         rt.alloc(),
-        b"admit 1\nin 1 \"a\\n\"\nend 1\nout 1 8\nrun 1\nact 1 read 9\nact 1 write \"bcd\"\nreturn 1\n",
+        b"admit 1\nin 1 \"a\\n\"\nend 1\nout 1 8\nrun 1\nact 1 write \"bcd\"\nreturn 1\n",
     )?;
     let script = read_script(rt.alloc(), text.as_slice())?;
     let steps = script.steps.into_vec();
@@ -336,11 +326,6 @@ fn steps_have_their_bytes(rt: HostRuntime) -> Result<(), Fail> {
             Step::Run(1),
             Step::Act {
                 conn: 1,
-                act: Act::Read(9),
-                bytes: _,
-            },
-            Step::Act {
-                conn: 1,
                 act: Act::Write(3),
                 bytes: written,
             },
@@ -354,6 +339,46 @@ fn steps_have_their_bytes(rt: HostRuntime) -> Result<(), Fail> {
             assert!(rt; written.as_slice() == b"bcd".as_slice());
         }
         _ => assert!(rt; false, "the steps of the lines"),
+    }
+    Ok(())
+}
+
+#[test]
+fn reads_have_their_count(rt: HostRuntime) -> Result<(), Fail> {
+    let text = behind_first_line(rt.alloc(), b"act 1 read 9\n")?;
+    let script = read_script(rt.alloc(), text.as_slice())?;
+    let step = script.steps.into_vec().pop();
+    assert!(rt;
+        matches!(
+            step,
+            Some(Step::Act {
+                conn: 1,
+                act: Act::Read(9),
+                ..
+            })
+        )
+    );
+    Ok(())
+}
+
+#[test]
+fn reads_of_another_form_are_refused(rt: HostRuntime) -> Result<(), Fail> {
+    let table: [&[u8]; 9] = [
+        b"act 1 read",
+        b"act 1 read ",
+        b"act 1 read 1 ",
+        b"act 1 read 1 1",
+        b"act 1 read \"a\"",
+        b"act 1 read 01",
+        b"act 1 read 65537",
+        b"act 1 read 4294967297",
+        b"act 1 reads 1",
+    ];
+    for (row, text) in table.iter().enumerate() {
+        assert!(rt; is_refused(rt.alloc(), text)?, "row {row}");
+    }
+    for most in [b"act 1 read 0\n".as_slice(), b"act 1 read 65536\n"] {
+        assert!(rt; !is_refused(rt.alloc(), most)?);
     }
     Ok(())
 }

@@ -1,5 +1,5 @@
 -- What is left to show of `by_framing`.
-use Rattle.std.proofs.Common.{◌≡◌, Result, Ok, ℕ, sym, ap, ◌∙◌}
+use Rattle.std.proofs.Common.{Result, ℕ, sym, ap, ◌∙◌}
 use Rattle.cy_framing.specs.Told.{shown}
 use Rattle.cy_framing.specs.declared.verdict.Framed.{Framed}
 use Rattle.cy_proc.specs.Judging.{framed_of}

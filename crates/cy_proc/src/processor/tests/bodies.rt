@@ -9,10 +9,10 @@ const ABSENT: &[u8] = b"POST /b HTTP/1.1\r\nHost: a\r\nTransfer-Encoding: chunke
 
 /// What a read of so many bytes at most is answered.
 fn read(rt: &impl Abort, course: &mut Course, into: &mut [u8]) -> Reply {
-    let count = into.len() as u32;
     assert!(rt; into.len() <= 65_536);
     assert!(rt; is_open(&course.line));
     assert!(rt; course.processor.is_open());
+    let count = into.len() as u32;
     course
         .processor
         .act(&mut course.line, 0, &Act::Read(count), b"", into)

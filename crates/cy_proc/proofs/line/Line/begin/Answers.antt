@@ -1,12 +1,11 @@
 -- What is left to show of `Line::begin`.
-use Rattle.std.proofs.Common.{◌≡◌, ◌≤◌, ℕ, ◌+◌, ◌++◌, Bool, true, false, List, length, drop, Option, None, refl, sym, ap, subst, arith, ◌∙◌, length-drop, length-append}
+use Rattle.std.proofs.Common.{◌≤◌, ℕ, ◌++◌, Bool, true, false, List, length, sym, ap, subst, arith, ◌∙◌, length-drop, length-append}
 use Rattle.cy_event.specs.Answers.{continue_text}
-use Rattle.cy_event.specs.declared.framing.Framing.{Framing}
-use Rattle.cy_in.specs.Intakes.{Intake, after_scan, started}
+use Rattle.cy_in.specs.Intakes.{Intake, after_scan}
 use Rattle.cy_rings.specs.Rings.{Rings}
 use Rattle.cy_model.specs.Outputs.{begin_text}
 use Rattle.cy_proc.specs.LineBodies.{IsInRing}
-use Rattle.cy_proc.specs.Lines.{LineParts, open_bound}
+use Rattle.cy_proc.specs.Lines.{LineParts}
 use Rattle.cy_proc.proofs.InRing.{in_ring_begin}
 use Rattle.cy_proc.proofs.line.Line.begin.Goals as goal
 

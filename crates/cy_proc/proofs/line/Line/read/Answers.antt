@@ -1,8 +1,7 @@
 -- What is left to show of `Line::read`.
-use Rattle.std.proofs.Common.{◌≡◌, ◌≤◌, ℕ, ◌+◌, Bool, true, List, length, drop, Option, None, refl, sym, ap, subst, arith, ◌∙◌, length-drop}
+use Rattle.std.proofs.Common.{◌≡◌, ◌≤◌, ℕ, true, List, length, sym, ap, subst, arith, ◌∙◌, length-drop}
 use Rattle.cy_in.specs.Intakes.{Intake, taken_by}
 use Rattle.cy_rings.specs.Rings.{Rings}
-use Rattle.cy_proc.specs.LineBodies.{IsInRing}
 use Rattle.cy_proc.specs.Lines.{open_bound}
 use Rattle.cy_proc.proofs.InRing.{in_ring_read, read_moves}
 use Rattle.cy_proc.proofs.line.Line.read.Goals as goal

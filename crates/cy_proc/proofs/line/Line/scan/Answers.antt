@@ -1,5 +1,5 @@
 -- What is left to show of `Line::scan`.
-use Rattle.std.proofs.Common.{◌≡◌, ◌≤◌, ℕ, ◌+◌, Bool, true, List, length, Option, None, sym, ap, subst, ◌∙◌}
+use Rattle.std.proofs.Common.{◌≡◌, ◌≤◌, ◌+◌, true, length, sym, ap, subst, ◌∙◌}
 use Rattle.cy_in.specs.Intakes.{Intake}
 use Rattle.cy_rings.specs.Rings.{Rings}
 use Rattle.cy_proc.specs.LineBodies.{IsInRing}
