@@ -1,8 +1,10 @@
 -- A slot, seen from outside: who sits in it, what its processor keeps, and the number of the tenant.
 use Rattle.std.specs.Prelude.{◌≡◌, ◌<◌, ◌+◌, ℕ, true, false, List, [], replicate, Option, Some, None}
 use Rattle.cy_event.specs.declared.limits.Limits.{Limits}
+use Rattle.cy_event.specs.declared.framing.Framing.TheVariants as framing
 use Rattle.cy_event.specs.declared.steps.CloseCause.{CloseCause}
 use Rattle.cy_event.specs.declared.steps.Job.{Job}
+use Rattle.cy_in.specs.Intakes.{started}
 use Rattle.cy_proc.specs.Lines.{LineParts}
 use Rattle.cy_proc.specs.ProcessorChanges.{job_at}
 use Rattle.cy_proc.specs.Processors.{ProcessorParts, fresh_processor, is_free_at, is_open_at}
@@ -44,7 +46,7 @@ with_state b s = record s { state = b }
 
 -- stands in place of a line where nobody sits
 abbrev pub blank_line : LineParts
-blank_line = record { unread = []; came = 0; begun = 0; unsent = []; is_open = false; cause = None; has_ended = false; moment = 0 }
+blank_line = record { unread = []; body = started framing.None; came = 0; begun = 0; unsent = []; is_open = false; cause = None; has_ended = false; moment = 0 }
 
 abbrev pub line_of : Option Conn → LineParts
 line_of None = blank_line

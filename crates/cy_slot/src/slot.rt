@@ -4,7 +4,7 @@ ghost use Rattle.std.specs.Prelude.{◌≡◌, ◌≤◌, ◌<◌, ◌+◌, ◌+
 ghost use Rattle.cy_event.specs.declared.head.TheConstants.{FIELD_ROOM, HEAD_ROOM};
 ghost use Rattle.cy_event.specs.declared.limits.TheConstants.{GREATEST_MOMENT};
 ghost use Rattle.cy_model.specs.Steps.{IsWithinBytes};
-ghost use Rattle.cy_proc.specs.ProcessorAnswers.{AnswersEachAct, AnswersEachEvent, AnswersEachTurn, TakesUpEach, is_ended};
+ghost use Rattle.cy_proc.specs.ProcessorAnswers.{AnswersEachAct, AnswersEachEvent, AnswersEachTurn, GivesInto, IsReadInto, TakesUpEach, is_ended};
 ghost use Rattle.cy_proc.specs.ProcessorChanges.{job_at};
 ghost use Rattle.cy_proc.specs.Processors.{has_request_at, is_free_at, is_open_at, is_over_at, part_at};
 ghost use Rattle.cy_proc.specs.LineChanges.{work_of};
@@ -190,10 +190,11 @@ impl Slot {
         reply
     }
 
-    /// The callback that runs acts.
+    /// The callback that runs acts. A read gives content to the front of `into`, which has room for as much as it asks.
     pub fn act(&mut self, tenancy: u64, at: u64, act: &Act, bytes: &[u8], into: &mut [u8]) -> Reply
         requires moment { at ≤ GREATEST_MOMENT }
         requires within { IsWithinBytes act.now bytes.now }
+        requires into { IsReadInto act.now into.old }
         ensures ended { is_ended result ≡ not (reaches tenancy self.old) }
         ensures others { reaches tenancy self.old ≡ false → self.new ≡ self.old }
         ensures answers { reaches tenancy self.old ≡ true → AnswersEachAct act.now bytes.now (line_in self.old) self.old.processor result into.new (line_in self.new) self.new.processor }
@@ -201,7 +202,7 @@ impl Slot {
         ensures chart { length self.new.processor.progress.chart ≤ length self.old.processor.progress.chart + 1 }
         ensures work { work_of (line_in self.new) ≤ work_of (line_in self.old) }
         ensures opened { reaches tenancy self.old ≡ true → is_free_at self.new.processor.stage ≡ false }
-        ensures into { into.new ≡ into.old }
+        ensures into { GivesInto result into.old into.new }
         ensures all_else { KeepsAllElse self.old self.new }
         ensures turn { IsTurn self.old (was_stepped tenancy (effect_of (not (is_ended result)) self.new)) self.new }
     {

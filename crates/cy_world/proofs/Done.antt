@@ -59,6 +59,8 @@ told_kept limits rules = record {
       not_found_keeps TellsRefusals t r T told (told_with t LastAnswer S refl told);
   begins = λ t r T may at due told. told;
   serves = λ t j T e told. job_begins TellsRefusals t j T (λ q. told) (λ q. told);
+  gives = λ t j n T e may told. told;
+  tells_end = λ t j T e may told. told;
   puts = λ t j b T e few told. told;
   returns = λ t j T e told. return_keeps TellsRefusals t T (λ q. told) (λ q. told_end t T (returned t T) told);
 }

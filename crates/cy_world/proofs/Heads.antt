@@ -1,5 +1,5 @@
 -- Only one move of the container takes up a head or refuses it: whatever else happens, as many were taken up as before.
-use Rattle.std.proofs.Common.{◌≡◌, ℕ, ◌+◌, Bool, true, false, List, [], ◌∷◌, ⊎_elim, option_map, take, Option, Some, None, is_some, refl, sym, ap, ◌∙◌, subst, arith, if◌then◌else◌, cond, nat_le}
+use Rattle.std.proofs.Common.{◌≡◌, ℕ, ◌+◌, Bool, true, false, List, [], ◌∷◌, length, ⊎_elim, option_map, take, Option, Some, None, is_some, refl, sym, ap, ◌∙◌, subst, arith, if◌then◌else◌, cond, nat_le}
 use Rattle.cy_event.specs.declared.limits.Limits.{Limits}
 use Rattle.cy_event.specs.declared.steps.Act.{Act}
 use Rattle.cy_event.specs.declared.steps.Act.TheVariants as act
@@ -15,8 +15,9 @@ use Rattle.cy_map.specs.declared.rule.Rule.{Rule}
 use Rattle.cy_model.specs.Endings.{end_marks, error_marks, failure_marks, fault_marks_by, hears_fault, server_error}
 use Rattle.cy_model.specs.Entries.{act_marks, event_marks, is_closed_act, is_closed_to, is_full, job_marks, open_act_marks, owed_after, rested_act, rested_callback, rested_event, rested_turn, return_marks, write_takes}
 use Rattle.cy_model.specs.Folds.{begun_count, cause_of, earlier, running, state_of}
-use Rattle.cy_model.specs.Marks.{Mark, aborted, began, called, caused, error_answer, over, put, refused, TakenUp, Trace}
+use Rattle.cy_model.specs.Marks.{Mark, aborted, began, called, caused, end_given, error_answer, given, over, put, refused, TakenUp, Trace}
 use Rattle.cy_model.specs.Outputs.{answer_of, is_committed}
+use Rattle.cy_model.specs.Reads.{content_read, end_read, nothing_read, reading_in, reading_marks}
 use Rattle.cy_model.specs.Settling.{Due, bad_place, body_cause, body_cause_by, cause_and_fault, due_move, due_of, head_move, not_found, nothing, refusal, request, rested, return_marks_in, swallow_place, taken_up, with_marks}
 use Rattle.cy_model.specs.Verdicts.{not_found_status}
 use Rattle.cy_model.proofs.Moves.{EndsWith, IsCauseMove, end_keeps, is_answers, may_begin-parts}
@@ -111,6 +112,12 @@ module _ (n : ℕ) where
   had_return_marks t T h = return_keeps Had t T (λ e. h) (λ e. had_end t T (returned t T) h)
 
   had_open_act : (limits : Limits) (t : ℕ) (T : Trace) (a : Act) (b : List ℕ) → Had T → Had (rested_act limits t T (open_act_marks limits T a b))
+  had_open_act limits t T (act.Read m) b h =
+      elim (reading_in m T) as (λ r. Had (rested_act limits t T (reading_marks r))) [
+        | content_read content ↦ had_rested limits t ((t, given (length content)) ∷ T) h
+        | end_read ↦ had_rested limits t ((t, end_given) ∷ T) h
+        | nothing_read ↦ h
+      ]
   had_open_act limits t T (act.Write m) b h =
       let taken = put (take_of m) in
       elim (is_full (answer_of T) m) as (λ v. Had (rested_act limits t T (cond v None (Some (taken ∷ []))))) [

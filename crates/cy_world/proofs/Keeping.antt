@@ -1,11 +1,12 @@
 -- A connection with all that it wrote goes on standing for its entries.
-use Rattle.std.proofs.Common.{◌≡◌, ℕ, ◌+◌, Bool, true, false, List, [], ◌∷◌, ◌++◌, length, drop, map, refl, sym, ap, ◌∙◌, subst, arith, length-append, if◌then◌else◌}
+use Rattle.std.proofs.Common.{◌≡◌, ℕ, ◌+◌, Bool, true, false, List, [], ◌∷◌, ◌++◌, length, drop, map, Option, Some, None, refl, sym, ap, ◌∙◌, subst, arith, length-append, if◌then◌else◌}
 use Rattle.std.proofs.lemmas.List.{length-map, map-append}
 use mir.Val.{bool_byte}
 use Rattle.cy_event.specs.declared.limits.Limits.{Limits}
 use Rattle.cy_event.specs.declared.steps.Act.{Act}
 use Rattle.cy_event.specs.declared.steps.Event.{Event}
 use Rattle.cy_event.specs.declared.steps.Event.TheVariants as event
+use Rattle.cy_event.specs.declared.steps.Job.{Job}
 use Rattle.cy_event.specs.declared.steps.Reply.{Reply}
 use Rattle.cy_event.specs.declared.steps.Reply.TheVariants as reply
 use Rattle.cy_event.specs.declared.table.ChartItem.{ChartItem}
@@ -21,11 +22,11 @@ use Rattle.cy_world.specs.declared.seat.Account.{Account}
 use Rattle.cy_event.specs.declared.steps.Step.{Step}
 use Rattle.cy_event.specs.declared.steps.Step.TheVariants as step
 use Rattle.cy_world.proofs.Lives.{AnswersTurn, all_charts, callback_refused, callback_unfollowed, settled_callback}
-use Rattle.cy_model.specs.Entries.{after_callback, after_turn, callback_reply, after, event_marks, event_reply, is_closed_to, on_act, on_event, on_run, opening, reply_to, reply_to_event, rested_callback, rested_event, turn_reply}
+use Rattle.cy_model.specs.Entries.{after_callback, after_turn, callback_reply, after, event_marks, event_reply, is_closed_to, job_reply, on_act, on_event, on_run, opening, reply_to, reply_to_event, rested_callback, rested_event, turn_reply}
 use Rattle.cy_model.specs.Folds.{calls, charts, ended_charts, is_open}
 use Rattle.cy_model.specs.Outputs.{is_gone, output, took}
 use Rattle.cy_model.specs.Marks.{opened, Trace}
-use Rattle.cy_model.specs.Replies.{Replied, is_refusal, plain}
+use Rattle.cy_model.specs.Replies.{Replied, is_refusal, plain, replied_in}
 use Rattle.cy_model.specs.Settling.{rested, settled, with_marks}
 use Rattle.cy_model.proofs.Settlings.{settled-rested}
 use Rattle.cy_world.specs.Answered.{Answers, IsOwn, Keeps, Parts, Tells, entry_by, is_turn, start}
@@ -109,6 +110,16 @@ event_keeps s e b r T p k n written keeps open_now answers each settles settled_
           (subst (λ (X : Trace). Keeps s X (record { live = n; written = written })) trace (goes_on s T R p n written keeps lives all out));
     }
 
+-- a reply beside which no bytes stand
+bare : (r q : Reply) (into : List ℕ) → replied_in r into ≡ plain q → replied_in r into ≡ plain r
+bare r q into same = same ∙ sym (ap (λ (x : Replied). plain x.reply) same)
+
+-- no bytes stand beside what the socket is answered
+told_event : (e : Event) (b : List ℕ) (p k : LiveParts) (r : Reply) (into : List ℕ) → LivesAfterTelling (on_event e b) p r into k → LivesAfterEvent e b p r k
+told_event e b p k r into tells T lives =
+    let w = tells T lives in
+    record { reply = sym (bare r (reply_to_event T e b) into w.reply) ∙ w.reply; lives = w.lives }
+
 -- ---- turns and acts
 
 -- a connection that is gone takes no turn and no act
@@ -154,9 +165,9 @@ run_keeps s r T p n written keeps here w each pushed =
     }
 
 -- an act, by the trace that it leaves
-acted_keeps : (s : Terms) (a : Act) (b : List ℕ) (r : Reply) (T R : Trace) (p : Parts) (n : LiveParts) (written : List ℕ) → Keeps s T p → is_gone T ≡ false
-    → plain r ≡ callback_reply p.live.limits T a → after_callback s.limits s.rules start T a b ≡ R → Lives R n → KeepsEach p.live n → written ≡ output R
-    → Answers s T (on_act a b) (plain r) (record { live = n; written = written })
+acted_keeps : (s : Terms) (a : Act) (b : List ℕ) (r : Replied) (T R : Trace) (p : Parts) (n : LiveParts) (written : List ℕ) → Keeps s T p → is_gone T ≡ false
+    → r ≡ callback_reply p.live.limits T a → after_callback s.limits s.rules start T a b ≡ R → Lives R n → KeepsEach p.live n → written ≡ output R
+    → Answers s T (on_act a b) r (record { live = n; written = written })
 unfolding after reply_to
 acted_keeps s a b r T R p n written keeps here replied after_is lives each out = record {
   reply = replied ∙ ap (λ (l : Limits). callback_reply l T a) keeps.limits ∙ sym (ap (λ (v : Bool). if v then plain reply.Closed else callback_reply s.limits T a) here);
@@ -165,20 +176,20 @@ acted_keeps s a b r T R p n written keeps here replied after_is lives each out =
 }
 
 -- an act that is refused
-refused_act_keeps : (s : Terms) (a : Act) (b : List ℕ) (r : Reply) (T : Trace) (p : Parts) (k : LiveParts) → Keeps s T p → is_gone T ≡ false → is_refusal r ≡ true
-    → LivesAfterTelling (on_act a b) p.live r k → KeepsEach p.live k → Answers s T (on_act a b) (plain r) (record { live = k; written = p.written })
-refused_act_keeps s a b r T p k keeps here refused tells each =
+refused_act_keeps : (s : Terms) (a : Act) (b : List ℕ) (r : Reply) (into : List ℕ) (T : Trace) (p : Parts) (k : LiveParts) → Keeps s T p → is_gone T ≡ false → is_refusal r ≡ true
+    → LivesAfterTelling (on_act a b) p.live r into k → KeepsEach p.live k → Answers s T (on_act a b) (replied_in r into) (record { live = k; written = p.written })
+refused_act_keeps s a b r into T p k keeps here refused tells each =
     let w = tells T keeps.lives in
     let refused_then : is_refusal (callback_reply p.live.limits T a).reply ≡ true = sym (ap (λ (x : Replied). is_refusal x.reply) w.reply) ∙ refused in
     let refused_now : is_refusal (callback_reply s.limits T a).reply ≡ true = sym (ap (λ (l : Limits). is_refusal (callback_reply l T a).reply) keeps.limits) ∙ refused_then in
     let lives : Lives T k = subst (λ (R : Trace). Lives R k) (callback_refused p.live.limits p.live.line.moment T a b refused_then) w.lives in
-    acted_keeps s a b r T T p k p.written keeps here w.reply (callback_unfollowed s.limits start T s.rules a b refused_now) lives each keeps.written
+    acted_keeps s a b (replied_in r into) T T p k p.written keeps here w.reply (callback_unfollowed s.limits start T s.rules a b refused_now) lives each keeps.written
 
 -- an act, and what follows
-act_keeps : (s : Terms) (a : Act) (b : List ℕ) (r : Reply) (T : Trace) (p : Parts) (k n : LiveParts) (written : List ℕ) → Keeps s T p → is_gone T ≡ false → is_refusal r ≡ false
-    → LivesAfterTelling (on_act a b) p.live r k → KeepsEach p.live k → SettlesEach s.rules k n → KeepsEach k n → written ≡ p.written ++ drop (length p.live.line.unsent) n.line.unsent
-    → Answers s T (on_act a b) (plain r) (record { live = n; written = written })
-act_keeps s a b r T p k n written keeps here taken tells each settles settled_each pushed =
+act_keeps : (s : Terms) (a : Act) (b : List ℕ) (r : Reply) (into : List ℕ) (T : Trace) (p : Parts) (k n : LiveParts) (written : List ℕ) → Keeps s T p → is_gone T ≡ false → is_refusal r ≡ false
+    → LivesAfterTelling (on_act a b) p.live r into k → KeepsEach p.live k → SettlesEach s.rules k n → KeepsEach k n → written ≡ p.written ++ drop (length p.live.line.unsent) n.line.unsent
+    → Answers s T (on_act a b) (replied_in r into) (record { live = n; written = written })
+act_keeps s a b r into T p k n written keeps here taken tells each settles settled_each pushed =
     let w = tells T keeps.lives in
     let C : Trace = rested_callback s.limits start T a b in
     let R : Trace = after_callback s.limits s.rules start T a b in
@@ -189,47 +200,59 @@ act_keeps s a b r T p k n written keeps here taken tells each settles settled_ea
     let moment : k.line.moment ≡ start = each.moment ∙ keeps.moment in
     let lives : Lives R n = subst (λ (X : Trace). Lives X n) (settled_callback s.limits start T s.rules a b taken_now)
     (subst (λ (l : Limits). Lives (settled l s.rules start C) n) limits (subst (λ (t : ℕ). Lives (settled k.limits s.rules t C) n) moment (settles C told))) in
-    acted_keeps s a b r T R p n written keeps here w.reply refl lives (both_keep p.live k n each settled_each)
+    acted_keeps s a b (replied_in r into) T R p n written keeps here w.reply refl lives (both_keep p.live k n each settled_each)
     (written_on T R p n s written keeps lives (act_writes s.limits s.rules start T a b) pushed)
 
 -- ---- an entry
 
 -- an entry that is refused is followed by nothing
-pub step_refused : (s : Terms) (step : Step) (told : Reply) (T : Trace) (p : Parts) (k : LiveParts) → IsOwn step → Keeps s T p → is_gone T ≡ false → is_refusal told ≡ true
-    → LivesAfterTelling (entry_by step) p.live told k → KeepsEach p.live k → Answers s T (entry_by step) (plain told) (record { live = k; written = p.written })
-step_refused s (step.At t) told T p k own keeps here refused tells each = absurd own
-step_refused s (step.Admit c) told T p k own keeps here refused tells each = absurd own
-step_refused s (step.On c e b) told T p k own keeps here refused tells each = closed_keeps s e b told T p k keeps refused tells each
-step_refused s (step.Act c a b) told T p k own keeps here refused tells each = refused_act_keeps s a b told T p k keeps here refused tells each
-step_refused s (step.Run c) told T p k own keeps here refused tells each =
+pub step_refused : (s : Terms) (step : Step) (told : Reply) (into : List ℕ) (T : Trace) (p : Parts) (k : LiveParts) → IsOwn step → Keeps s T p → is_gone T ≡ false → is_refusal told ≡ true
+    → LivesAfterTelling (entry_by step) p.live told into k → KeepsEach p.live k → Answers s T (entry_by step) (replied_in told into) (record { live = k; written = p.written })
+step_refused s (step.At t) told into T p k own keeps here refused tells each = absurd own
+step_refused s (step.Admit c) told into T p k own keeps here refused tells each = absurd own
+step_refused s (step.On c e b) told into T p k own keeps here refused tells each =
+    subst (λ (v : Replied). Answers s T (on_event e b) v (record { live = k; written = p.written })) (sym (bare told _ into (tells T keeps.lives).reply))
+    (closed_keeps s e b told T p k keeps refused (told_event e b p.live k told into tells) each)
+step_refused s (step.Act c a b) told into T p k own keeps here refused tells each = refused_act_keeps s a b told into T p k keeps here refused tells each
+step_refused s (step.Run c) told into T p k own keeps here refused tells each =
     let clash : false ≡ true = sym (ap (λ (x : Replied). is_refusal x.reply) (tells T keeps.lives).reply) ∙ refused in cc
 
 reply_is : (r q : Reply) → plain r ≡ plain q → r ≡ q
 reply_is r q same = ap (λ (x : Replied). x.reply) same
 
+-- nor do they beside what a worker is told
+job_bare : (o : Option Job) (into : List ℕ) → replied_in (job_reply o) into ≡ plain (job_reply o)
+job_bare None into = refl
+job_bare (Some j) into = refl
+
+turn_bare : (r : Reply) (o : Option Job) (into : List ℕ) → plain r ≡ plain (job_reply o) → plain r ≡ replied_in r into
+turn_bare r o into same = subst (λ (q : Reply). plain q ≡ replied_in q into) (sym (reply_is r (job_reply o) same)) (sym (job_bare o into))
+
 -- an entry that is taken, and what follows
-pub step_followed : (s : Terms) (step : Step) (told r : Reply) (first : ℕ) (T : Trace) (p : Parts) (k n : LiveParts) (written : List ℕ) → IsOwn step → Keeps s T p → is_gone T ≡ false → is_refusal told ≡ false
-    → LivesAfterTelling (entry_by step) p.live told k → KeepsEach p.live k → LivesAfterFollowing s.rules (is_turn step) told k r n → KeepsEach k n
+pub step_followed : (s : Terms) (step : Step) (told r : Reply) (into : List ℕ) (first : ℕ) (T : Trace) (p : Parts) (k n : LiveParts) (written : List ℕ) → IsOwn step → Keeps s T p → is_gone T ≡ false → is_refusal told ≡ false
+    → LivesAfterTelling (entry_by step) p.live told into k → KeepsEach p.live k → LivesAfterFollowing s.rules (is_turn step) told k r n → KeepsEach k n
     → first ≡ first_of (entry_by step) p.live k → written ≡ p.written ++ drop first n.line.unsent
-    → Answers s T (entry_by step) (plain r) (record { live = n; written = written })
-step_followed s (step.At t) told r first T p k n written own keeps here taken tells each follows each_then from pushed = absurd own
-step_followed s (step.Admit c) told r first T p k n written own keeps here taken tells each follows each_then from pushed = absurd own
-step_followed s (step.On c e b) told r first T p k n written own keeps here taken tells each follows each_then from pushed =
+    → Answers s T (entry_by step) (replied_in r into) (record { live = n; written = written })
+step_followed s (step.At t) told r into first T p k n written own keeps here taken tells each follows each_then from pushed = absurd own
+step_followed s (step.Admit c) told r into first T p k n written own keeps here taken tells each follows each_then from pushed = absurd own
+step_followed s (step.On c e b) told r into first T p k n written own keeps here taken tells each follows each_then from pushed =
     let same : r ≡ told = reply_is r told (follows _ (tells T keeps.lives).lives).reply in
-    subst (λ (q : Reply). Answers s T (on_event e b) (plain q) (record { live = n; written = written })) (sym same)
-    (event_keeps s e b told T p k n written keeps taken tells each (λ R lives. (follows R lives).lives) each_then
+    subst (λ (v : Replied). Answers s T (on_event e b) v (record { live = n; written = written }))
+    (sym (ap (λ (q : Reply). replied_in q into) same ∙ bare told _ into (tells T keeps.lives).reply))
+    (event_keeps s e b told T p k n written keeps taken (told_event e b p.live k told into tells) each (λ R lives. (follows R lives).lives) each_then
     (pushed ∙ ap (λ (i : ℕ). p.written ++ drop i n.line.unsent) from))
-step_followed s (step.Act c a b) told r first T p k n written own keeps here taken tells each follows each_then from pushed =
+step_followed s (step.Act c a b) told r into first T p k n written own keeps here taken tells each follows each_then from pushed =
     let same : r ≡ told = reply_is r told (follows _ (tells T keeps.lives).lives).reply in
-    subst (λ (q : Reply). Answers s T (on_act a b) (plain q) (record { live = n; written = written })) (sym same)
-    (act_keeps s a b told T p k n written keeps here taken tells each (λ R lives. (follows R lives).lives) each_then
+    subst (λ (q : Reply). Answers s T (on_act a b) (replied_in q into) (record { live = n; written = written })) (sym same)
+    (act_keeps s a b told into T p k n written keeps here taken tells each (λ R lives. (follows R lives).lives) each_then
     (pushed ∙ ap (λ (i : ℕ). p.written ++ drop i n.line.unsent) from))
-step_followed s (step.Run c) told r first T p k n written own keeps here taken tells each follows each_then from pushed =
-    run_keeps s r T p n written keeps here
+step_followed s (step.Run c) told r into first T p k n written own keeps here taken tells each follows each_then from pushed =
+    subst (λ (v : Replied). Answers s T on_run v (record { live = n; written = written })) (turn_bare r _ into (follows _ (tells T keeps.lives).lives).reply)
+    (run_keeps s r T p n written keeps here
     (subst (λ (l : Limits). AnswersLive (turn_reply T (settled l s.rules p.live.line.moment T)) (after_turn p.live.line.moment T (settled l s.rules p.live.line.moment T)) (plain r) n) each.limits
     (subst (λ (t : ℕ). AnswersLive (turn_reply T (settled k.limits s.rules t T)) (after_turn t T (settled k.limits s.rules t T)) (plain r) n) each.moment (follows T (tells T keeps.lives).lives)))
     (both_keep p.live k n each each_then)
-    (pushed ∙ ap (λ (i : ℕ). p.written ++ drop i n.line.unsent) from)
+    (pushed ∙ ap (λ (i : ℕ). p.written ++ drop i n.line.unsent) from))
 
 -- ---- the opening
 

@@ -17,10 +17,10 @@ use Rattle.cy_model.specs.Jobs.{asking, job_owed, next_job}
 use Rattle.cy_model.specs.Folds.{cause_of, ended_charts, is_open, running}
 use Rattle.cy_model.specs.Outputs.{answer_of, unsent}
 use Rattle.cy_states.specs.Progress.{Progress}
-use Rattle.cy_model.specs.Marks.{Trace, put}
+use Rattle.cy_model.specs.Marks.{Trace, end_given, given, put}
+use Rattle.cy_model.specs.Reads.{content_read, end_read, nothing_read, reading_in, reading_marks, reading_reply}
 use Rattle.cy_model.specs.Replies.{is_refusal, plain, replied_in}
 use Rattle.cy_model.specs.Settling.{front_of, is_awaited, may_begin, may_begin_by, rested, settled, taken_up, with_marks}
-use Rattle.cy_model.proofs.Built.{has_whole}
 use Rattle.cy_model.proofs.Gone.{open_may_not_begin}
 use Rattle.cy_model.proofs.Settlings.{none-due, settled-at-rest, settled-rested, settled-taken}
 use Rattle.cy_proc.specs.LineAnswers.{AnswersEachEvent, RestsEach as LineRestsEach}
@@ -30,8 +30,7 @@ use Rattle.cy_proc.specs.ProcessorAnswers.{AnswersEachAct, AnswersEachEvent as O
 use Rattle.cy_proc.specs.Processors.{ProcessorParts, is_open_at, is_over_at, over_charts, over_charts_at}
 use Rattle.cy_proc.specs.declared.processor.Stage.{Stage}
 use Rattle.cy_proc.specs.declared.processor.Stage.TheVariants as stage
-use Rattle.cy_proc.proofs.Lines.{plainly}
-use Rattle.cy_proc.proofs.Plain.{rested_open}
+use Rattle.cy_proc.proofs.Lines.{plainly, rested_open}
 use Rattle.cy_proc.proofs.Requests.{SameRequests, event_same, rested_same, stands_idle, stands_open, stands_same}
 use Rattle.cy_world.specs.Lives.{AnswersLive, LivesAfterFollowing, RestsEach, SettlesEach, SettlesOne, TakesOne}
 use Rattle.cy_world.specs.Places.{IsAlive, LiveParts, Lives}
@@ -65,7 +64,7 @@ rested_lives T p l s rests =
 
 -- nothing is done by itself while a request is open
 pub open_lives : (T : Trace) (p : LiveParts) → Lives T p → is_open_at p.processor.stage ≡ true → Lives (rested p.limits p.line.moment T) p
-open_lives T p s o = subst (λ (R : Trace). Lives R p) (sym (rested_open p.limits p.line.moment T (plainly T s.serves.line.sound) (stands_open T p.processor s.serves.processor ∙ o))) s
+open_lives T p s o = subst (λ (R : Trace). Lives R p) (sym (rested_open p.limits p.line.moment T p.line s.serves.line (stands_open T p.processor s.serves.processor ∙ o))) s
 
 -- ---- settling
 
@@ -149,8 +148,7 @@ not_due limits T p none s =
       | true ↦ λ o n.
           ap (λ (v : Bool). v && not (is_awaited (front_of limits T))) (open_may_not_begin T (stands_open T p.processor s.serves.processor ∙ o))
       | false ↦ λ o n.
-          ap (λ (v : Bool). may_begin_by (is_open T) (cause_of T) v (unsent T) && not (is_awaited (front_of limits T))) (has_whole T (plainly T s.serves.line.sound))
-          ∙ ap (λ (l : LineParts). is_due limits l) (sym s.serves.line.same) ∙ n
+          ap (λ (l : LineParts). is_due limits l) (sym s.serves.line.same) ∙ n
     ] refl none
 
 -- so it is settled
@@ -175,26 +173,14 @@ open_not_over stage.Serving o = refl
 open_not_over stage.Over o = cc
 open_not_over stage.Refused o = cc
 
--- nothing is handed over where there is no room for it
-abbrev none : List ℕ
-none = []
-
-take_none : (n : ℕ) → take n none ≡ none
-take_none zero = refl
-take_none (suc n) = refl
-
-no_room : (r : Reply) → replied_in r none ≡ plain r
-no_room (reply.Got n) = ap (λ (u : List ℕ). record { reply = reply.Got n; got = u }) (take_none n)
-no_room r = refl
-
-pub act_told : (a : Act) (b into : List ℕ) (r : Reply) (T : Trace) (p : LiveParts) (l : LineParts) (q : ProcessorParts) → is_open_at p.processor.stage ≡ true → Lives T p → l.moment ≡ max p.line.moment 0 → q.limits ≡ p.processor.limits → into ≡ none
-    → AnswersEachAct a b p.line p.processor r into l q → AnswersLive (callback_reply p.limits T a) (rested_callback p.limits p.line.moment T a b) (plain r) (record p { line = l; processor = q })
-act_told a b into r T p l q o s later same empty answers =
+pub act_told : (a : Act) (b into : List ℕ) (r : Reply) (T : Trace) (p : LiveParts) (l : LineParts) (q : ProcessorParts) → is_open_at p.processor.stage ≡ true → Lives T p → l.moment ≡ max p.line.moment 0 → q.limits ≡ p.processor.limits
+    → AnswersEachAct a b p.line p.processor r into l q → AnswersLive (callback_reply p.limits T a) (rested_callback p.limits p.line.moment T a b) (replied_in r into) (record p { line = l; processor = q })
+act_told a b into r T p l q o s later same answers =
     let w = answers T s.serves in
     let at : l.moment ≡ p.line.moment = later ∙ last_moment p.line.moment in
     let to_limits : q.limits ≡ p.limits = same ∙ s.limits in
     record {
-      reply = sym (ap (replied_in r) empty ∙ no_room r) ∙ w.reply ∙ ap (λ (k : Limits). callback_reply k T a) to_limits;
+      reply = w.reply ∙ ap (λ (k : Limits). callback_reply k T a) to_limits;
       lives = subst (λ (k : Limits). Lives (rested_callback k p.line.moment T a b) (record p { line = l; processor = q })) to_limits
           (subst (λ (t : ℕ). Lives (rested_callback q.limits t T a b) (record p { line = l; processor = q })) at
           (served_lives T (rested_callback q.limits l.moment T a b) p l q (open_not_over p.processor.stage o) to_limits s w.after));
@@ -214,6 +200,12 @@ idle_told a b T p closed s =
 
 module _ (limits : Limits) (t : ℕ) (T : Trace) where
   open_act_refused : (a : Act) (b : List ℕ) → is_refusal (open_act_reply limits T a).reply ≡ true → rested_act limits t T (open_act_marks limits T a b) ≡ T
+  open_act_refused (act.Read n) b e =
+      elim (reading_in n T) as (λ r. is_refusal (reading_reply r).reply ≡ true → rested_act limits t T (reading_marks r) ≡ T) [
+        | content_read content ↦ λ q. cc
+        | end_read ↦ λ q. cc
+        | nothing_read ↦ λ q. refl
+      ] e
   open_act_refused (act.Write n) b e =
       elim (is_full (answer_of T) n) as (λ v. is_refusal (if v then reply.Again else reply.Taken (write_takes (answer_of T) n)) ≡ true
       → rested_act limits t T (if v then None else Some (put (take (write_takes (answer_of T) n) b) ∷ [])) ≡ T) [
@@ -238,6 +230,12 @@ module _ (limits : Limits) (t : ℕ) (T : Trace) where
 
   -- it is followed by nothing
   open_act_unfollowed : (rules : List Rule) (a : Act) (b : List ℕ) → is_refusal (open_act_reply limits T a).reply ≡ true → after_act limits rules t T (open_act_marks limits T a b) ≡ T
+  open_act_unfollowed rules (act.Read n) b e =
+      elim (reading_in n T) as (λ r. is_refusal (reading_reply r).reply ≡ true → after_act limits rules t T (reading_marks r) ≡ T) [
+        | content_read content ↦ λ q. cc
+        | end_read ↦ λ q. cc
+        | nothing_read ↦ λ q. refl
+      ] e
   open_act_unfollowed rules (act.Write n) b e =
       elim (is_full (answer_of T) n) as (λ v. is_refusal (if v then reply.Again else reply.Taken (write_takes (answer_of T) n)) ≡ true
       → after_act limits rules t T (if v then None else Some (put (take (write_takes (answer_of T) n) b) ∷ [])) ≡ T) [
@@ -262,6 +260,13 @@ module _ (limits : Limits) (t : ℕ) (T : Trace) where
   -- an act that isn't refused is followed by the moves of the container
   settled_open_act : (rules : List Rule) (a : Act) (b : List ℕ) → is_refusal (open_act_reply limits T a).reply ≡ false
       → settled limits rules t (rested_act limits t T (open_act_marks limits T a b)) ≡ after_act limits rules t T (open_act_marks limits T a b)
+  settled_open_act rules (act.Read n) b e =
+      elim (reading_in n T) as (λ r. is_refusal (reading_reply r).reply ≡ false
+      → settled limits rules t (rested_act limits t T (reading_marks r)) ≡ after_act limits rules t T (reading_marks r)) [
+        | content_read content ↦ λ q. settled-rested limits rules t ((t, given (length content)) ∷ T)
+        | end_read ↦ λ q. settled-rested limits rules t ((t, end_given) ∷ T)
+        | nothing_read ↦ λ q. cc
+      ] e
   settled_open_act rules (act.Write n) b e =
       elim (is_full (answer_of T) n) as (λ v. let o = if v then None else Some (put (take (write_takes (answer_of T) n) b) ∷ []) in
       is_refusal (if v then reply.Again else reply.Taken (write_takes (answer_of T) n)) ≡ false → settled limits rules t (rested_act limits t T o) ≡ after_act limits rules t T o) [
@@ -320,7 +325,7 @@ turn_lives rules r T p mid l q kept kept_mid s settles equal o same_limits same_
     let w = answers S lives.serves in
     let to_mid : q.limits ≡ mid.limits = same ∙ lives.limits in
     let at : l.moment ≡ p.line.moment = later ∙ last_moment mid.line.moment ∙ same_moment in
-    let rests : rested q.limits l.moment S ≡ S = rested_open q.limits l.moment S (plainly S lives.serves.line.sound) (stands_open S mid.processor lives.serves.processor ∙ o) in
+    let rests : rested q.limits l.moment S ≡ S = rested_open q.limits l.moment S mid.line lives.serves.line (stands_open S mid.processor lives.serves.processor ∙ o) in
     let counts : (ended_count S == ended_count T) ≡ true = eq-eqb (ended_count S) (ended_count T) (sym (ended_length S mid kept_mid lives) ∙ equal ∙ ended_length T p kept s) in
     let owed : owed_after S (rested q.limits l.moment S) ≡ owed_after T S =
     ap (owed_after S) rests

@@ -12,7 +12,7 @@ use Rattle.cy_event.specs.declared.steps.Step.TheVariants as step
 use Rattle.cy_latch.specs.Numbers.{after_leave, is_out}
 use Rattle.cy_latch.proofs.Sets.{is_out-set_same}
 use Rattle.cy_model.specs.Entries.{after, opening}
-use Rattle.cy_model.specs.Replies.{Replied, plain}
+use Rattle.cy_model.specs.Replies.{Replied, plain, replied_in}
 use Rattle.cy_proc.specs.Processors.{is_over_at}
 use Rattle.cy_world.specs.Answered.{AnswersEach, IsSameButRooms, IsVacant, Keeps, SeatParts, entry_by, seat_parts, start}
 use Rattle.cy_world.specs.Places.{CountsHeads, IsInItsSlot}
@@ -81,12 +81,12 @@ vacant_still p i seat new free same = (same_place p.terms i false seat new same 
 
 -- ---- a step of a connection
 
-pub own_stands : (w : List Step) (s : Step) (c i : ℕ) (p : WorldParts) (seat taken left : SeatParts) (r : Reply) (latch : List Bool) (book : List (ℕ × Admitted)) → IsOwnOf c s → StandsFor w p
+pub own_stands : (w : List Step) (s : Step) (c i : ℕ) (p : WorldParts) (seat taken left : SeatParts) (r : Reply) (into : List ℕ) (latch : List Bool) (book : List (ℕ × Admitted)) → IsOwnOf c s → StandsFor w p
     → find_in c p.book ≡ Some (Seated i) → slice_get p.seats i ≡ Some seat → taken.place.who ≡ seat.place.who → is_over_at taken.place.live.processor.stage ≡ false → CountsHeads seat.place taken.place → IsInItsSlot taken.place
-    → AnswersEach p.terms (entry_by s) (seat_parts seat) r (seat_parts taken) → Retires c taken p.latch p.book left latch book
-    → TakesStep w s p (plain r) (record p { seats = set p.seats i left; latch = latch; book = book })
-own_stands w s c i p seat taken left r latch book own stands booked there who kept counts slot answers retires =
-    let takes = entry_stands w s c i (entry_by s) p seat taken r (kind_of_own c s own) stands booked there who kept counts slot answers in
+    → AnswersEach p.terms (entry_by s) (seat_parts seat) r into (seat_parts taken) → Retires c taken p.latch p.book left latch book
+    → TakesStep w s p (replied_in r into) (record p { seats = set p.seats i left; latch = latch; book = book })
+own_stands w s c i p seat taken left r into latch book own stands booked there who kept counts slot answers retires =
+    let takes = entry_stands w s c i (entry_by s) p seat taken r into (kind_of_own c s own) stands booked there who kept counts slot answers in
     record {
       reply = takes.reply;
       stands = subst (λ (xs : List SeatParts). StandsFor (s ∷ w) (record p { seats = xs; latch = latch; book = book })) (set_twice p.seats i taken left)

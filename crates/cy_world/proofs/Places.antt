@@ -1,11 +1,10 @@
 -- What a place keeps goes on standing for what has happened, in the slot or beside it.
-use Rattle.std.proofs.Common.{◌≡◌, ◌≤◌, ℕ, ◌+◌, ◌-◌, ◌*◌, true, false, not, ◌&&◌, ◌==◌, List, [], length, max, leb, Option, Some, None, is_none, is_some, refl, sym, ap, ◌∙◌, subst, arith, length-append, take, if◌then◌else◌}
+use Rattle.std.proofs.Common.{◌≡◌, ◌≤◌, ℕ, ◌+◌, ◌-◌, ◌*◌, true, false, not, ◌&&◌, ◌==◌, List, [], length, max, leb, Option, Some, None, is_none, is_some, refl, sym, ap, ◌∙◌, subst, arith, length-append, length-drop, ◌||◌, take, if◌then◌else◌}
 use Rattle.std.proofs.lemmas.Bool.{and_left, and_parts, and_right, eq-eqb}
 use Rattle.std.proofs.lemmas.List.{length-take}
 use Rattle.cy_event.specs.declared.limits.Limits.{Limits}
 use Rattle.cy_event.specs.declared.steps.Act.{Act}
 use Rattle.cy_event.specs.declared.steps.CloseCause.{CloseCause}
-use Rattle.cy_event.specs.declared.steps.CloseCause.TheVariants.{InputEnd}
 use Rattle.cy_event.specs.declared.steps.Event.{Event}
 use Rattle.cy_event.specs.declared.steps.Event.TheVariants as event
 use Rattle.cy_event.specs.declared.steps.Reply.{Reply}
@@ -13,10 +12,11 @@ use Rattle.cy_event.specs.declared.table.ChartItem.{ChartItem}
 use Rattle.cy_map.specs.declared.rule.Rule.{Rule}
 use Rattle.cy_model.specs.Entries.{callback_reply, reply_to_event, rested_callback, rested_event}
 use Rattle.cy_model.specs.Marks.{Trace}
-use Rattle.cy_model.specs.Replies.{plain}
+use Rattle.cy_model.specs.Replies.{plain, replied_in}
 use Rattle.cy_model.specs.Settling.{begin_bound, is_awaited, rested, settled}
 use Rattle.cy_proc.specs.LineAnswers.{AnswersEachEvent as LineAnswersEachEvent, RestsEach as LineRestsEach}
-use Rattle.cy_proc.specs.LineChanges.{after_event, after_rest, after_told, causes_left, ends_at_rest, front_at, is_closed_line, is_due, is_gone_line, may_begin_line, room_of, standing_of, work_of}
+use Rattle.cy_in.specs.Intakes.{after_swallow, is_whole, taken_by}
+use Rattle.cy_proc.specs.LineChanges.{after_event, after_rest, after_told, cause_at_rest, causes_left, front_at, gone_on, is_closed_line, is_due, is_gone_line, may_begin_line, passed_line, room_of, scanned_line, standing_of, with_more, work_of}
 use Rattle.cy_proc.specs.Lines.{LineParts}
 use Rattle.cy_proc.specs.ProcessorAnswers.{AnswersEachAct, AnswersEachEvent, AnswersEachTurn}
 use Rattle.cy_proc.specs.Processors.{is_free_at, is_open_at, is_over_at}
@@ -129,15 +129,29 @@ seated_taken (Some i) limits s none seated = cc
 
 -- ---- room
 
+pub cause_at_most : (k : Option CloseCause) → causes_left k ≤ 1
+cause_at_most None = omega arith
+cause_at_most (Some k) = omega arith
+
 pub work_at_rest : (limits : Limits) (l : LineParts) → work_of (after_rest limits l) ≤ work_of l
 work_at_rest limits l =
-    elim (ends_at_rest limits l) as (λ v. work_of (if v then record l { cause = Some InputEnd } else l) ≤ work_of l) [ true ↦ omega arith | false ↦ omega arith ]
+    elim l.cause as (λ o. l.cause ≡ o → work_of (if is_none o then record l { cause = cause_at_rest limits l } else l) ≤ work_of l) [
+      | None ↦ λ e. omega (arith, cause_at_most (cause_at_rest limits l), ap causes_left e)
+      | Some k ↦ λ e. omega arith
+    ] refl
+
+-- what is passed over is left no more
+gone_on_work : (l : LineParts) → work_of (gone_on l) ≤ work_of l
+gone_on_work l =
+    elim (l.is_open || l.begun == 0) as (λ v. work_of (if v then scanned_line l else passed_line l) ≤ work_of l) [
+      | true ↦ omega arith
+      | false ↦ omega (arith, length-drop (taken_by l.body (after_swallow l.body.max_trailer l.body l.unread)) l.unread)
+    ]
 
 work_of_event : (e : Event) (b : List ℕ) (l : LineParts) → work_of (after_event e b l) ≤ work_of l + length b
-work_of_event event.In b l = omega (arith, appended, length-take (room_of l) b)
-  where
-    appended : length (after_event event.In b l).unread ≡ length l.unread + length (take (room_of l) b)
-    appended = length-append l.unread (take (room_of l) b)
+work_of_event event.In b l =
+    let some = take (room_of l) b in
+    omega (arith, gone_on_work (with_more some l), length-append l.unread some, length-take (room_of l) b)
 work_of_event event.End b l = omega arith
 work_of_event (event.Took n) b l = omega arith
 
@@ -148,10 +162,6 @@ told_work limits e b l =
       | true ↦ omega arith
       | false ↦ omega (arith, work_at_rest limits (after_event e b l), work_of_event e b l)
     ]
-
-pub cause_at_most : (k : Option CloseCause) → causes_left k ≤ 1
-cause_at_most None = omega arith
-cause_at_most (Some k) = omega arith
 
 -- an entry that brought so many bytes leaves room for what they may lead to
 pub event_room : (before now : PlaceParts) (n : ℕ) → now.live.charts ≡ before.live.charts → now.chart_room ≡ before.chart_room → now.tenants_left ≡ before.tenants_left
@@ -190,7 +200,7 @@ some_not_none (Some x) e = refl
 -- no head is due where there is a cause to close
 cause_not_due : (limits : Limits) (l : LineParts) → is_some l.cause ≡ true → is_due limits l ≡ false
 cause_not_due limits l e =
-    let rest = true && leb (length l.unsent) begin_bound in
+    let rest = is_whole l.body.scanned.stage && leb (length l.unsent) begin_bound in
     and_left (may_begin_line l) (not (is_awaited (front_at limits l)))
     (and_right (not l.is_open) (is_none l.cause && rest) (and_left (is_none l.cause) rest (some_not_none l.cause e)))
 
@@ -261,7 +271,7 @@ pub record EndsAs (p mid : LiveParts) : Type 0 where
   pub line : mid.line ≡ p.line
 
 module _ (limits : Limits) (s r : SlotParts) (charts : List (List ChartItem)) (tenancy : ℕ) (a : Act) (b into : List ℕ) (reply : Reply) (rest : KeepsAllElse s r) (same : tenancy ≡ s.tenancy) (kept : is_over_at s.processor.stage ≡ false)
-    (later : reaches tenancy s ≡ true → (line_in r).moment ≡ max (line_in s).moment 0) (empty : into ≡ [])
+    (later : reaches tenancy s ≡ true → (line_in r).moment ≡ max (line_in s).moment 0)
     (answers : reaches tenancy s ≡ true → AnswersEachAct a b (line_in s) s.processor reply into (line_in r) r.processor) where
   pub acted_place : (spare : Option SlotParts) (idle : Option Idle) (room : ℕ) → idle ≡ None → IsPlace limits s spare idle charts room → (reaches tenancy s ≡ true → is_free_at r.processor.stage ≡ false) → IsPlace limits r spare idle charts room
   acted_place spare (Some i) room none place opened = cc
@@ -271,11 +281,11 @@ module _ (limits : Limits) (s r : SlotParts) (charts : List (List ChartItem)) (t
       (act_alive a b into (live_of limits s None charts) reply (line_in r) r.processor place.alive (open_by s.processor.stage place.seated.1 kept) rest.limits (answers here))
 
   pub acted : (idle : Option Idle) (new : LiveParts) → idle ≡ None → IsSeated idle limits s → EndsAs (live_of limits r idle charts) new → (T : Trace) → Lives T (live_of limits s idle charts)
-      → AnswersLive (callback_reply limits T a) (rested_callback limits (line_at idle s).moment T a b) (plain reply) new
+      → AnswersLive (callback_reply limits T a) (rested_callback limits (line_at idle s).moment T a b) (replied_in reply into) new
   acted (Some i) new none seated ends T lives = cc
   acted None new none seated ends T lives =
       let here = seated_reaches None limits s tenancy refl seated kept same in
-      let w = act_told a b into reply T (live_of limits s None charts) (line_in r) r.processor (open_by s.processor.stage seated.1 kept) lives (later here) rest.limits empty (answers here) in
+      let w = act_told a b into reply T (live_of limits s None charts) (line_in r) r.processor (open_by s.processor.stage seated.1 kept) lives (later here) rest.limits (answers here) in
       record { reply = w.reply; lives = ends.lives (rested_callback limits (line_in s).moment T a b) w.lives }
 
   pub acted_keeps : (idle : Option Idle) (new : LiveParts) → idle ≡ None → IsSeated idle limits s → EndsAs (live_of limits r idle charts) new → is_over_at new.processor.stage ≡ false

@@ -11,7 +11,7 @@ use Rattle.cy_model.specs.Connections.{History, Kind, add_own, connections, coun
 use Rattle.cy_model.specs.Entries.{Entry, after, on_act, on_event, on_run, trace_of}
 use Rattle.cy_model.specs.Marks.{Trace, opened}
 use Rattle.cy_model.specs.Outputs.{is_gone}
-use Rattle.cy_model.specs.Replies.{plain}
+use Rattle.cy_model.specs.Replies.{Replied, replied_in}
 use Rattle.cy_model.proofs.OwnEntries.{own_steps_add_own_entries}
 use Rattle.cy_proc.specs.Processors.{is_over_at}
 use Rattle.cy_slot.specs.Reaching.{Who}
@@ -94,8 +94,8 @@ pub record StandsBut (c i : ℕ) (T : Trace) (w : List Step) (p : WorldParts) : 
   pub tenancies : AddUp p.terms p.seats (all_of p w)
 
 -- the entry is answered by the definition
-pub record TakesEntry (c i : ℕ) (w : List Step) (s : Step) (old : WorldParts) (r : Reply) (new : WorldParts) : Type 0 where
-  pub reply : plain r ≡ reply_by old.terms.limits old.terms.rules (kind_of s) (moment (s ∷ w)) (all_of old w)
+pub record TakesEntry (c i : ℕ) (w : List Step) (s : Step) (old : WorldParts) (r : Replied) (new : WorldParts) : Type 0 where
+  pub reply : r ≡ reply_by old.terms.limits old.terms.rules (kind_of s) (moment (s ∷ w)) (all_of old w)
   pub trace : Trace
   pub stands : StandsBut c i trace (s ∷ w) new
 
@@ -133,10 +133,10 @@ places_go_on p i seat new places there who some_one kept slot = record {
         subst (λ (n : ℕ). IsPlaceOf p.terms n (is_out p.latch n) k) (sym e) (mine k (subst (λ (n : ℕ). slice_get (set p.seats i new) n ≡ Some k) e at))
     by_place j k (inr other) at = places.each j k (sym (get-set_other p.seats i j new other) ∙ at)
 
-pub entry_stands : (w : List Step) (s : Step) (c i : ℕ) (e : Entry) (p : WorldParts) (seat new : SeatParts) (r : Reply) → kind_of s ≡ own c e → StandsFor w p → find_in c p.book ≡ Some (Seated i)
+pub entry_stands : (w : List Step) (s : Step) (c i : ℕ) (e : Entry) (p : WorldParts) (seat new : SeatParts) (r : Reply) (into : List ℕ) → kind_of s ≡ own c e → StandsFor w p → find_in c p.book ≡ Some (Seated i)
     → slice_get p.seats i ≡ Some seat → new.place.who ≡ seat.place.who → is_over_at new.place.live.processor.stage ≡ false → CountsHeads seat.place new.place → IsInItsSlot new.place
-    → AnswersEach p.terms e (seat_parts seat) r (seat_parts new) → TakesEntry c i w s p r (record p { seats = set p.seats i new })
-entry_stands w s c i e p seat new r kind stands booked there who kept counts slot answers =
+    → AnswersEach p.terms e (seat_parts seat) r into (seat_parts new) → TakesEntry c i w s p (replied_in r into) (record p { seats = set p.seats i new })
+entry_stands w s c i e p seat new r into kind stands booked there who kept counts slot answers =
     let limits = p.terms.limits in
     let rules = p.terms.rules in
     let hs = all_of p w in

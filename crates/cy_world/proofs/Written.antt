@@ -5,7 +5,7 @@ use Rattle.cy_event.specs.declared.limits.Limits.{Limits}
 use Rattle.cy_event.specs.declared.steps.Act.{Act}
 use Rattle.cy_event.specs.declared.steps.Act.TheVariants as act
 use Rattle.cy_event.specs.declared.steps.Call.TheVariants as call
-use Rattle.cy_event.specs.declared.steps.CloseCause.TheVariants.{InputEnd}
+use Rattle.cy_event.specs.declared.steps.CloseCause.{CloseCause}
 use Rattle.cy_event.specs.declared.steps.Event.{Event}
 use Rattle.cy_event.specs.declared.steps.Event.TheVariants as event
 use Rattle.cy_event.specs.declared.steps.Job.{Job}
@@ -14,17 +14,18 @@ use Rattle.cy_event.specs.Table.{is_end, row}
 use Rattle.cy_map.specs.declared.rule.Rule.{Rule}
 use Rattle.cy_model.specs.Endings.{end_marks}
 use Rattle.cy_model.specs.Entries.{act_marks, after_act, after_callback, after_turn, end_marks_where, event_marks, is_closed_act, is_closed_to, is_full, job_marks, open_act_marks, owed_after, rested_event, return_marks, run_marks, sent_of, write_takes}
-use Rattle.cy_model.specs.Folds.{running, state_of}
+use Rattle.cy_model.specs.Folds.{cause_of, running, state_of}
 use Rattle.cy_model.specs.Inputs.{room}
 use Rattle.cy_model.specs.Laws.{is_containers}
-use Rattle.cy_model.specs.Marks.{Mark, back, called, came, caused, broken, ended, put, sent, started, Trace}
+use Rattle.cy_model.specs.Marks.{Mark, back, called, came, broken, end_given, ended, given, put, sent, started, Trace}
 use Rattle.cy_model.specs.Outputs.{answer_of, output, unsent, writing}
+use Rattle.cy_model.specs.Reads.{content_read, end_read, nothing_read, reading_in, reading_marks}
 use Rattle.cy_model.specs.Settling.{rested, settled, with_marks}
 use Rattle.cy_model.proofs.Built.{IsPlain, mark_plain}
 use Rattle.cy_model.proofs.ContainerMarks.{end_containers, marks_keep, settled-by-marks}
 use Rattle.cy_model.proofs.Growth.{past_stays, takes_output, unsent_begins}
 use Rattle.cy_proc.specs.Lines.{LineParts, Represents}
-use Rattle.cy_proc.proofs.Plain.{ends_now, rested_is}
+use Rattle.cy_proc.proofs.Rests.{cause_now, rested_closed, rested_now, with_cause}
 
 -- between two traces something was written, and the socket took nothing
 pub record Writes (T R : Trace) : Type 0 where
@@ -83,6 +84,12 @@ return_writes t T =
     ]
 
 open_act_writes : (limits : Limits) (rules : List Rule) (t : ℕ) (T : Trace) (a : Act) (b : List ℕ) → Writes T (after_act limits rules t T (open_act_marks limits T a b))
+open_act_writes limits rules t T (act.Read n) b =
+    elim (reading_in n T) as (λ r. Writes T (after_act limits rules t T (reading_marks r))) [
+      | content_read content ↦ settled_writes limits rules t T ((t, given (length content)) ∷ T) (mark_writes T t (given (length content)) T refl (nothing_written T))
+      | end_read ↦ settled_writes limits rules t T ((t, end_given) ∷ T) (mark_writes T t end_given T refl (nothing_written T))
+      | nothing_read ↦ nothing_written T
+    ]
 open_act_writes limits rules t T (act.Write n) b =
     let taken = take (write_takes (answer_of T) n) b in
     elim (is_full (answer_of T) n) as (λ v. Writes T (after_act limits rules t T (cond v None (Some (put taken ∷ []))))) [
@@ -115,9 +122,15 @@ told_plain t event.End b T p = mark_plain t T p ended refl
 told_plain t (event.Took n) b T p = mark_plain t T p (sent (sent_of n T)) refl
 
 rested_output : (limits : Limits) (t : ℕ) (T : Trace) → IsPlain T → output (rested limits t T) ≡ output T
-rested_output limits t T p =
-    ap output (rested_is limits t T p)
-    ∙ elim (ends_now limits T) as (λ v. output (if v then (t, caused InputEnd) ∷ T else T) ≡ output T) [ true ↦ refl | false ↦ refl ]
+rested_output limits t T p = by_cause (cause_of T) refl
+  where
+    caused_output : (o : Option CloseCause) → output (with_cause t T o) ≡ output T
+    caused_output None = refl
+    caused_output (Some k) = refl
+
+    by_cause : (o : Option CloseCause) → cause_of T ≡ o → output (rested limits t T) ≡ output T
+    by_cause None e = ap output (rested_now limits t T p e) ∙ caused_output (cause_now limits T)
+    by_cause (Some k) e = ap output (rested_closed limits t T p (ap is_some e))
 
 pub event_output : (limits : Limits) (t : ℕ) (e : Event) (b : List ℕ) (T : Trace) → IsPlain T → output (rested_event limits t T e b) ≡ output T
 event_output limits t e b T p =

@@ -1,6 +1,8 @@
 -- What it means that an entry of a connection was answered rightly.
 use Rattle.std.specs.Prelude.{◌≡◌, ℕ, Bool, true, false, List, [], ◌∷◌, length, map, None}
 use Rattle.cy_event.specs.declared.limits.Limits.{Limits}
+use Rattle.cy_event.specs.declared.steps.Act.{Act}
+use Rattle.cy_event.specs.declared.steps.Act.TheVariants as act
 use Rattle.cy_event.specs.declared.steps.Reply.{Reply}
 use Rattle.cy_event.specs.declared.steps.Step.{Step}
 use Rattle.cy_event.specs.declared.steps.Step.TheVariants as step
@@ -9,7 +11,7 @@ use Rattle.cy_model.specs.Entries.{Entry, after, on_act, on_event, on_run, reply
 use Rattle.cy_model.specs.Folds.{cause_of, charts}
 use Rattle.cy_model.specs.Marks.{Trace, opened}
 use Rattle.cy_model.specs.Outputs.{is_gone, output, took}
-use Rattle.cy_model.specs.Replies.{Replied, plain}
+use Rattle.cy_model.specs.Replies.{Replied, replied_in}
 use Rattle.cy_model.specs.Steps.{IsWithinBytes}
 use Rattle.cy_proc.specs.Processors.{is_over_at}
 use Rattle.cy_world.specs.Places.{IsInItsSlot, IsSameButRoom, LiveParts, Lives, PlaceParts}
@@ -83,6 +85,15 @@ abbrev pub is_act : Step → Bool
 is_act (step.Act c a b) = true
 is_act s = false
 
+-- as much content as an act asks for, and a step
+abbrev pub read_asked : Act → ℕ
+read_asked (act.Read n) = n
+read_asked a = 0
+
+abbrev pub content_asked : Step → ℕ
+content_asked (step.Act c a b) = read_asked a
+content_asked s = 0
+
 -- for how many further charts a step may need room: for one of each byte that comes, and for that of a request that an
 -- act ends
 abbrev pub charts_asked : Step → ℕ
@@ -95,10 +106,10 @@ pub record Answers (s : Terms) (T : Trace) (e : Entry) (r : Replied) (p : Parts)
   pub reply : r ≡ reply_to s.limits s.rules start T e
   pub keeps : Keeps s (after s.limits s.rules start T e) p
 
--- for each trace that the parts stood for, of a connection that isn't gone; no bytes stand beside the reply, since none
--- are read yet
-abbrev pub AnswersEach : Terms → Entry → Parts → Reply → Parts → Type 0
-AnswersEach s e old r new = (T : Trace) → Keeps s T old → is_gone T ≡ false → Answers s T e (plain r) new
+-- for each trace that the parts stood for, of a connection that isn't gone; beside the reply stand the bytes that it hands
+-- over in a buffer
+abbrev pub AnswersEach : Terms → Entry → Parts → Reply → List ℕ → Parts → Type 0
+AnswersEach s e old r into new = (T : Trace) → Keeps s T old → is_gone T ≡ false → Answers s T e (replied_in r into) new
 
 -- what is told of a connection is what its trace says
 pub record Tells (T : Trace) (a : Account) : Type 0 where

@@ -7,7 +7,7 @@ use Rattle.cy_event.specs.declared.steps.Reply.TheVariants as reply
 use Rattle.cy_map.specs.declared.rule.Rule.{Rule}
 use Rattle.cy_model.specs.Entries.{Entry, after_turn, callback_reply, on_act, on_event, reply_to_event, rested_callback, rested_event, turn_reply}
 use Rattle.cy_model.specs.Marks.{Trace}
-use Rattle.cy_model.specs.Replies.{Replied, plain}
+use Rattle.cy_model.specs.Replies.{Replied, plain, replied_in}
 use Rattle.cy_model.specs.Settling.{rested, settled, taken_up}
 use Rattle.cy_proc.specs.LineChanges.{work_of}
 use Rattle.cy_proc.specs.Processors.{is_over_at}
@@ -51,9 +51,11 @@ told_trace limits t T (on_event e b) = rested_event limits t T e b
 told_trace limits t T (on_act a b) = rested_callback limits t T a b
 told_trace limits t T e = T
 
-abbrev pub LivesAfterTelling : Entry → LiveParts → Reply → LiveParts → Type 0
-LivesAfterTelling e old r new =
-    (T : Trace) → Lives T old → AnswersLive (told_reply old.limits T e) (told_trace old.limits old.line.moment T e) (plain r) new
+-- with the bytes that it hands over in a buffer
+abbrev pub LivesAfterTelling : Entry → LiveParts → Reply → List ℕ → LiveParts → Type 0
+LivesAfterTelling e old r into new =
+    (T : Trace) → Lives T old
+    → AnswersLive (told_reply old.limits T e) (told_trace old.limits old.line.moment T e) (replied_in r into) new
 
 -- how many bytes of what waits were written before what follows
 abbrev pub first_of : Entry → LiveParts → LiveParts → ℕ

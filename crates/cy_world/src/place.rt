@@ -8,11 +8,12 @@ ghost use Rattle.cy_model.specs.Outputs.{is_gone};
 ghost use Rattle.cy_model.specs.Marks.{Trace, opened};
 ghost use Rattle.cy_model.specs.Steps.{IsWithinBytes};
 ghost use Rattle.cy_proc.specs.LineChanges.{is_due, room_of, work_of};
+ghost use Rattle.cy_proc.specs.ProcessorAnswers.{IsReadInto};
 ghost use Rattle.cy_proc.specs.Processors.{fresh_processor, is_open_at, is_over_at};
 ghost use Rattle.cy_rings.specs.declared.kit.TheConstants.{IN_CAPACITY, OUT_CAPACITY};
 ghost use Rattle.cy_event.specs.declared.steps.Reply.TheVariants as reply;
 ghost use Rattle.cy_model.specs.Entries.{on_act};
-ghost use Rattle.cy_world.specs.Answered.{IsOwn, charts_asked, entry_by, is_act, is_turn};
+ghost use Rattle.cy_world.specs.Answered.{IsOwn, charts_asked, content_asked, entry_by, is_act, is_turn};
 ghost use Rattle.cy_world.specs.Lives.{KeepsEach, LeavesNoMoreWork, LivesAfterEvent, LivesAfterFollowing, LivesAfterTelling, RestsEach, SettlesEach, SettlesOne, first_of};
 ghost use Rattle.cy_slot.specs.Reaching.{Who, who_is};
 ghost use Rattle.cy_slot.specs.declared.slot.TheConstants.{GREATEST_TENANCY};
@@ -264,16 +265,17 @@ impl Place {
 
     /// What an entry does at once: the socket tells something, or the callback that runs acts. No head is taken up yet.
     /// A turn of a worker does nothing yet. Beside the reply stands how many bytes wait for the socket, of which what
-    /// follows is no part.
-    pub fn tell(&mut self, step: &Step, items: Vec<ChartItem>) -> (usize, Reply)
+    /// follows is no part. A read gives content to `into`, which is as long as it asks.
+    pub fn tell(&mut self, step: &Step, items: Vec<ChartItem>, into: &mut [u8]) -> (usize, Reply)
         requires own { IsOwn step.now }
         requires kept { is_over_at self.old.live.processor.stage ≡ false }
         requires room { HasRoom (charts_asked step.now) self.old }
         requires empty { items.items ≡ [] }
         requires slot { IsInItsSlot self.old }
         requires items_room { is_act step.now ≡ true → length self.old.slot.processor.progress.chart + 1 ≤ vec_capacity items }
+        requires into { length into.old ≡ content_asked step.now }
         ensures first { result.0 ≡ first_of (entry_by step.now) self.old.live self.new.live }
-        ensures tells { LivesAfterTelling (entry_by step.now) self.old.live result.1 self.new.live }
+        ensures tells { LivesAfterTelling (entry_by step.now) self.old.live result.1 into.new self.new.live }
         ensures turn { is_turn step.now ≡ true → result.1 ≡ reply.Idle }
         ensures keeps { KeepsEach self.old.live self.new.live }
         ensures counts { CountsHeads self.old self.new }
@@ -285,7 +287,7 @@ impl Place {
             Step::On { event, bytes, .. } => self.event(*event, bytes.as_slice()),
             Step::Act { act, bytes, .. } => {
                 let first = self.unsent_len();
-                (first, self.act(act, bytes.as_slice(), items))
+                (first, self.act(act, bytes.as_slice(), items, into))
             }
             Step::Run(_) => (self.unsent_len(), Reply::Idle),
             Step::At(_) | Step::Admit(_) => unreachable!(),
@@ -317,14 +319,22 @@ impl Place {
         (first, reply)
     }
 
-    /// The callback that runs acts. Where its request ends it leaves the slot, and its chart goes into these items.
-    fn act(&mut self, act: &Act, bytes: &[u8], items: Vec<ChartItem>) -> Reply
+    /// The callback that runs acts. Where its request ends it leaves the slot, and its chart goes into these items. A read
+    /// gives content to the front of `into`.
+    fn act(
+        &mut self,
+        act: &Act,
+        bytes: &[u8],
+        items: Vec<ChartItem>,
+        into: &mut [u8],
+    ) -> Reply
         requires kept { is_over_at self.old.live.processor.stage ≡ false }
         requires room { HasRoom 1 self.old }
         requires within { IsWithinBytes act.now bytes.now }
         requires empty { items.items ≡ [] }
         requires items_room { length self.old.slot.processor.progress.chart + 1 ≤ vec_capacity items }
-        ensures answers { LivesAfterTelling (on_act act.now bytes.now) self.old.live result self.new.live }
+        requires into { IsReadInto act.now into.old }
+        ensures answers { LivesAfterTelling (on_act act.now bytes.now) self.old.live result into.new self.new.live }
         ensures keeps { KeepsEach self.old.live self.new.live }
         ensures counts { CountsHeads self.old self.new }
         ensures slot { IsInItsSlot self.new }
@@ -335,7 +345,7 @@ impl Place {
             return Reply::NotActive;
         }
         let tenancy = self.slot.tenancy();
-        let reply = self.slot.act(tenancy, START, act, bytes, &mut []);
+        let reply = self.slot.act(tenancy, START, act, bytes, into);
         if self.slot.is_over() {
             let chart = chart_of(&self.slot, items);
             self.finish(chart);

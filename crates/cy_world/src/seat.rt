@@ -8,7 +8,7 @@ ghost use Rattle.cy_model.specs.Replies.{is_refusal};
 ghost use Rattle.cy_proc.specs.Processors.{is_open_at, is_over_at};
 ghost use Rattle.cy_slot.specs.Reaching.{Who, who_is};
 ghost use Rattle.cy_rings.specs.declared.kit.TheConstants.{OUT_CAPACITY};
-ghost use Rattle.cy_world.specs.Answered.{AnswersEach, IsOwn, IsSameButRooms, IsVacant, Keeps, Tells, TellsEach, charts_asked, entry_by, seat_parts, start};
+ghost use Rattle.cy_world.specs.Answered.{AnswersEach, IsOwn, IsSameButRooms, IsVacant, Keeps, Tells, TellsEach, charts_asked, content_asked, entry_by, seat_parts, start};
 ghost use Rattle.cy_world.specs.Places.{CountsHeads, HasRoom, IsInItsSlot, Lives, visits_of};
 ghost use Rattle.cy_world.specs.Told.{TalliesEach, tally_of};
 
@@ -181,17 +181,24 @@ impl Seat {
         self.written = Bytes::of(written);
     }
 
-    /// Takes an entry of the connection. One that is refused is followed by nothing.
+    /// Takes an entry of the connection. One that is refused is followed by nothing. A read gives content to the front of
+    /// `into`, which is as long as it asks.
     ///
     /// # Errors
     ///
     /// Where memory ran out. Then nothing has changed.
-    pub fn take(&mut self, step: &Step, terms: &Terms) -> Result<Reply, NoMemory>
+    pub fn take(
+        &mut self,
+        step: &Step,
+        into: &mut [u8],
+        terms: &Terms,
+    ) -> Result<Reply, NoMemory>
         requires own { IsOwn step.now }
         requires kept { is_over_at self.old.place.live.processor.stage ≡ false }
         requires guest { is_some self.old.place.who ≡ true }
         requires slot { IsInItsSlot self.old.place }
-        ensures answers { IfOk result (λ r. AnswersEach terms.now (entry_by step.now) (seat_parts self.old) r (seat_parts self.new)) }
+        requires into { length into.old ≡ content_asked step.now }
+        ensures answers { IfOk result (λ r. AnswersEach terms.now (entry_by step.now) (seat_parts self.old) r into.new (seat_parts self.new)) }
         ensures who { self.new.place.who ≡ self.old.place.who }
         ensures kept { is_over_at self.new.place.live.processor.stage ≡ false }
         ensures counts { OnOk result (CountsHeads self.old.place self.new.place) }
@@ -201,7 +208,7 @@ impl Seat {
         self.place.reserve(charts_asked(step))?;
         let items = self.place.chart_items(step)?;
         let mut written = self.take_written()?;
-        let (first, told) = self.place.tell(step, items);
+        let (first, told) = self.place.tell(step, items, into);
         if is_refusal(told) {
             self.written = Bytes::of(written);
             return Ok(told);

@@ -9,11 +9,11 @@ ghost use Rattle.cy_model.specs.Connections.{connections, counted};
 ghost use Rattle.cy_model.specs.Entries.{ended_count};
 ghost use Rattle.cy_model.specs.Folds.{cause_of, is_open};
 ghost use Rattle.cy_model.specs.Outputs.{output, took};
-ghost use Rattle.cy_model.specs.Replies.{plain};
+ghost use Rattle.cy_model.specs.Replies.{got_in, plain};
 ghost use Rattle.cy_proc.specs.Processors.{is_over_at};
 ghost use Rattle.cy_slot.specs.Reaching.{Who, who_is};
 ghost use Rattle.cy_rings.specs.declared.kit.TheConstants.{OUT_CAPACITY};
-ghost use Rattle.cy_world.specs.Answered.{IsOwn, IsSameButRooms, IsVacant};
+ghost use Rattle.cy_world.specs.Answered.{IsOwn, IsSameButRooms, IsVacant, content_asked};
 ghost use Rattle.cy_world.specs.Places.{HasRoom};
 ghost use Rattle.cy_world.specs.declared.world.Admitted.TheVariants.{Seated};
 ghost use Rattle.cy_world.specs.Counts.{tenancies};
@@ -27,7 +27,7 @@ use crate::fault::WorldFault;
 use crate::seat::{Account, Seat, Tally};
 use crate::terms::Terms;
 use cy_bytes::Bytes;
-use cy_event::{CloseCause, Limits, NoMemory, Reply, Step};
+use cy_event::{Act, CloseCause, Limits, NoMemory, Reply, Step};
 use cy_latch::{Enter, LatchBook};
 use cy_map::{Mapper, Rule};
 use cy_rings::OUT_CAPACITY;
@@ -111,7 +111,8 @@ impl World {
         })
     }
 
-    /// A step. Its reply is the definition's, for every list of steps that the connector stands for.
+    /// A step. Its reply is the definition's, for every list of steps that the connector stands for. What a read gives goes
+    /// into a buffer as long as it asks.
     ///
     /// # Errors
     ///
@@ -134,10 +135,12 @@ impl World {
             Some(Admitted::Gone(_)) => return Ok(without_bytes(alloc, Reply::Closed)),
             Some(Admitted::Seated(place)) => *place,
         };
+        let mut content = vec![in alloc; 0; content_asked(step)]?;
         let seat = &mut self.seats[place as usize];
-        let reply = seat.take(step, &self.terms)?;
+        let reply = seat.take(step, &mut content, &self.terms)?;
         retire_if_gone(number, seat, &mut self.latch, &mut self.book);
-        Ok(without_bytes(alloc, reply))
+        let got = got_in(reply, content);
+        Ok(Replied { reply, got })
     }
 
     /// A connection asks to be admitted, of which there was none of this number.
@@ -299,6 +302,31 @@ fn conn_of(step: &Step) -> u64
         Step::On { conn, .. } | Step::Run(conn) | Step::Act { conn, .. } => *conn,
         Step::At(_) | Step::Admit(_) => unreachable!(),
     }
+}
+
+/// As much content as the step asks for.
+fn content_asked(step: &Step) -> usize
+    ensures { result ≡ content_asked step.now }
+{
+    match step {
+        Step::Act {
+            act: Act::Read(count),
+            ..
+        } => *count as usize,
+        _ => 0,
+    }
+}
+
+/// The bytes that a reply hands over of this content: the first of it, as many as it counts.
+fn got_in(reply: Reply, mut content: Vec<u8>) -> Bytes
+    ensures { result ≡ got_in reply content.items }
+{
+    let count = match reply {
+        Reply::Got(count) => count as usize,
+        _ => 0,
+    };
+    content.truncate(count);
+    Bytes::of(content)
 }
 
 /// This reply, without bytes.

@@ -1,5 +1,5 @@
 -- The steps of a script that is read are valid, and none is one of the clock.
-use Rattle.std.proofs.Common.{◌≡◌, ◌≢◌, ℕ, ◌+◌, ◌≤◌, Bool, true, false, cond, ◌||◌, ◌==◌, List, [], ◌∷◌, ◌++◌, count_by, length, reverse, refl, sym, ap, ◌∙◌, subst, arith}
+use Rattle.std.proofs.Common.{◌≡◌, ◌≢◌, ℕ, ◌+◌, ◌≤◌, Bool, true, false, cond, ◌||◌, ◌==◌, List, [], ◌∷◌, ◌++◌, count_by, length, nat_le, reverse, refl, sym, ap, ◌∙◌, subst, arith}
 use Rattle.std.proofs.lemmas.Bool.{and_parts, eq-eqb, eqb-true, leb-true}
 use Rattle.std.proofs.lemmas.List.{append-nil, append_assoc, reverse-append}
 use Rattle.std.proofs.lemmas.List.Sums.{sum_by-cons}
@@ -8,14 +8,16 @@ use Rattle.cy_event.specs.declared.steps.Act.{Act}
 use Rattle.cy_event.specs.declared.steps.Act.TheVariants as act
 use Rattle.cy_event.specs.declared.steps.Step.{Step}
 use Rattle.cy_event.specs.declared.steps.Step.TheVariants as step
+use Rattle.cy_event.specs.declared.steps.TheConstants.{GREATEST_READ}
 use Rattle.cy_model.specs.Steps.{IsNewNumber, IsValid, IsWithinBytes, MayFollow}
 use Rattle.cy_script.specs.Conditions.{admits, is_of_a_connection}
-use Rattle.cy_script.specs.Kept.{IsScript, has_its_bytes}
+use Rattle.cy_script.specs.Kept.{IsScript, has_its_bytes, is_nothing}
 use Rattle.cy_script.specs.declared.script.Script.{Script}
 use Rattle.cy_world.specs.Told.{is_clock}
 
--- the bytes that an act counts stand beside it
+-- the bytes that a write counts stand beside it, and a read asks for no more than it may
 within : (n : ℕ) (a : Act) (bytes : List ℕ) → has_its_bytes (step.Act n a bytes) ≡ true → IsWithinBytes a bytes
+within n (act.Read k) bytes beside = leb-true k GREATEST_READ (and_parts (nat_le k GREATEST_READ) (is_nothing bytes) beside).0
 within n (act.Write k) bytes beside = omega (arith, eqb-true k (length bytes) beside)
 within n act.Return bytes beside = tt
 

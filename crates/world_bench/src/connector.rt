@@ -5,7 +5,7 @@ ghost use Rattle.cy_world.specs.Worlds.{CanTake};
 use crate::request::{Request, STEPS, end};
 use anyhow::{Result, bail};
 use cy_bytes::Bytes;
-use cy_event::{Act, Limits, Reply, Step};
+use cy_event::{Act, GREATEST_READ, Limits, Reply, Step};
 use cy_map::Rule;
 use cy_world::World;
 use std::alloc::Global;
@@ -20,8 +20,8 @@ pub struct Connector {
     next: u64,
 }
 
-/// Whether the connector takes the step: a number is admitted once, and the bytes that are written
-/// stand there.
+/// Whether the connector takes the step: a number is admitted once, the bytes that are written stand
+/// there, and a read asks for no more than it may.
 fn may_take(world: &World, step: &Step) -> bool
     ensures { result ≡ true → CanTake step.now world.now }
 {
@@ -30,6 +30,7 @@ fn may_take(world: &World, step: &Step) -> bool
         Step::Admit(number) => world.out(*number).is_none(),
         Step::On { .. } | Step::Run(_) => true,
         Step::Act { act, bytes, .. } => match act {
+            Act::Read(count) => *count <= GREATEST_READ,
             Act::Write(count) => *count as usize <= bytes.as_slice().len(),
             Act::Return => true,
         },

@@ -5,7 +5,7 @@ ghost use Rattle.cy_world.specs.Worlds.{CanTake};
 
 use anyhow::{Result, bail};
 use cy_bytes::Bytes;
-use cy_event::{Act, Limits, Step};
+use cy_event::{Act, GREATEST_READ, Limits, Step};
 use cy_map::Rule;
 use cy_slot::Slot;
 use cy_world::World;
@@ -43,8 +43,8 @@ pub fn world(alloc: Global, most: u32) -> Result<World> {
     }
 }
 
-/// Whether the connector takes the step: a number is admitted once, and the bytes that are written
-/// stand there.
+/// Whether the connector takes the step: a number is admitted once, the bytes that are written stand
+/// there, and a read asks for no more than it may.
 pub fn may_take(world: &World, step: &Step) -> bool
     ensures { result ≡ true → CanTake step.now world.now }
 {
@@ -53,6 +53,7 @@ pub fn may_take(world: &World, step: &Step) -> bool
         Step::Admit(number) => world.out(*number).is_none(),
         Step::On { .. } | Step::Run(_) => true,
         Step::Act { act, bytes, .. } => match act {
+            Act::Read(count) => *count <= GREATEST_READ,
             Act::Write(count) => *count as usize <= bytes.as_slice().len(),
             Act::Return => true,
         },

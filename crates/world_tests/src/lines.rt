@@ -34,6 +34,15 @@ fn act_of(alloc: Global, conn: u64, act: Act, text: &str) -> Result<Step> {
     })
 }
 
+/// So many bytes are written.
+fn filling(alloc: Global, conn: u64, count: u32) -> Result<Step> {
+    Ok(Step::Act {
+        conn,
+        act: Act::Write(count),
+        bytes: StepBytes::of(vec![in alloc; b'x'; count as usize]?),
+    })
+}
+
 /// The step of a connection that a line says: a word, and its text behind a space.
 pub fn step_of(alloc: Global, conn: u64, line: &str) -> Result<Step> {
     let (word, text) = line.split_once(' ').unwrap_or((line, ""));
@@ -43,6 +52,8 @@ pub fn step_of(alloc: Global, conn: u64, line: &str) -> Result<Step> {
         "end" => told_by(alloc, conn, Event::End, ""),
         "took" => told_by(alloc, conn, Event::Took(text.parse::<u64>()?), ""),
         "run" => Ok(Step::Run(conn)),
+        "read" => act_of(alloc, conn, Act::Read(text.parse::<u32>()?), ""),
+        "fill" => filling(alloc, conn, text.parse::<u32>()?),
         "write" => act_of(alloc, conn, Act::Write(u32::try_from(text.len())?), text),
         "return" => act_of(alloc, conn, Act::Return, ""),
         _ => bail!("no word of a step"),

@@ -1,4 +1,4 @@
-//! `world_tests` takes the steps of eight connections, one behind the other in the one place of a
+//! `world_tests` takes the steps of eleven connections, one behind the other in the one place of a
 //! connector, and prints what each is answered. The input is a number: so many allocations are made
 //! before. Where one of those behind them is refused, by `rt try --fail-alloc`, a step for which
 //! memory ran out is taken again, once all that the connector tells was seen to be as before.
@@ -12,9 +12,9 @@ mod memory;
 use crate::connector::{may_take, world};
 use crate::lines::steps_of_all;
 use crate::memory::{View, insist};
-use anyhow::{Context, Result};
+use anyhow::{Context, Result, bail};
 use cy_event::Step;
-use cy_world::World;
+use cy_world::{Replied, World};
 use std::alloc::Global;
 
 /// What is had before the first step.
@@ -49,6 +49,17 @@ impl Trial {
     }
 }
 
+/// Prints what a step is answered, and the bytes that it got. It takes no memory.
+fn print_answer(rt: &HostRuntime, replied: &Replied) -> Result<()> {
+    let reply = replied.reply;
+    match str::from_utf8(replied.got.as_slice()) {
+        Ok("") => println!(rt; "{reply:?}")?,
+        Ok(got) => println!(rt; "{reply:?} {got}")?,
+        Err(_) => bail!("the bytes of a body are no text"),
+    }
+    Ok(())
+}
+
 fn main(rt: HostRuntime) -> Result<()> {
     let alloc = rt.alloc();
     let mut count = 0;
@@ -60,7 +71,7 @@ fn main(rt: HostRuntime) -> Result<()> {
         return Ok(());
     };
     for step in &trial.steps {
-        let (reply, was_refused) = insist(
+        let (replied, was_refused) = insist(
             alloc,
             &mut trial.world,
             step,
@@ -70,7 +81,7 @@ fn main(rt: HostRuntime) -> Result<()> {
         if was_refused {
             println!(rt; "no memory for the next step, which is taken again")?;
         }
-        println!(rt; "{reply:?}")?;
+        print_answer(&rt, &replied)?;
     }
     if Vec::<u8>::with_capacity(alloc, 8).is_err() {
         println!(rt; "no memory behind the last step")?;

@@ -2,14 +2,15 @@
 //! once there is. No view of it takes memory, so that what is refused is the step's.
 
 use crate::connector::{may_take, slot_of};
+use crate::courses::COURSES;
 use anyhow::{Result, bail};
-use cy_event::{CloseCause, Limits, Reply, RequestHead, Step};
+use cy_event::{CloseCause, Limits, RequestHead, Step};
 use cy_slot::{STATE_BYTES, Slot};
-use cy_world::World;
+use cy_world::{Replied, World};
 use std::alloc::Global;
 
 /// How many connections take steps.
-const CONNECTIONS: usize = 8;
+const CONNECTIONS: usize = COURSES.len();
 
 /// For so many bytes a view has room.
 const ROOM: usize = 1 << 16;
@@ -105,14 +106,14 @@ impl View {
 }
 
 /// Takes a step, and answers its reply, or none where memory ran out.
-fn take(alloc: Global, world: &mut World, step: &Step) -> Result<Option<Reply>> {
+fn take(alloc: Global, world: &mut World, step: &Step) -> Result<Option<Replied>> {
     if !may_take(world, step) {
         bail!("the connector doesn't take the step");
     }
     let Ok(replied) = world.step(alloc, step) else {
         return Ok(None);
     };
-    Ok(Some(replied.reply))
+    Ok(Some(replied))
 }
 
 /// Takes a step, and answers its reply. Where there was no memory, all is as before, and it is
@@ -123,7 +124,7 @@ pub fn insist(
     step: &Step,
     before: &mut View,
     after: &mut View,
-) -> Result<(Reply, bool)> {
+) -> Result<(Replied, bool)> {
     before.look_at(world)?;
     if let Some(reply) = take(alloc, world, step)? {
         return Ok((reply, false));

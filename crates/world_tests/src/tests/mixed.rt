@@ -40,7 +40,7 @@ fn guests(alloc: Global, mut number: u64) -> Result<Vec<Guest>, Fail> {
     let mut guests = Vec::new(alloc);
     for _ in 0..3 {
         number = next(number);
-        guests.push(Guest::of(alloc, upper(number) % 8))?;
+        guests.push(Guest::of(alloc, upper(number) % COURSES.len()))?;
     }
     Ok(guests)
 }

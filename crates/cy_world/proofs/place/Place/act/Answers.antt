@@ -10,14 +10,14 @@ pub invariant_of-self : goal.invariant_of-self
 invariant_of-self c =
     let kept = ap (λ (p : PlaceParts). is_over_at p.live.processor.stage) c.self.view_is ∙ c.requires.kept in
     acted_place c.self.inside.limits c.self.inside.slot c.act-reply.new.self c.self.inside.charts.items c.tenancy-tenancy.result c.args.act.now c.args.bytes.now _ c.act-reply.result c.act-reply.ensures.all_else
-    c.tenancy-tenancy.ensures kept c.act-reply.ensures.moment c.act-reply.ensures.into c.act-reply.ensures.answers c.self.inside.spare c.self.inside.idle _
+    c.tenancy-tenancy.ensures kept c.act-reply.ensures.moment c.act-reply.ensures.answers c.self.inside.spare c.self.inside.idle _
     (not_some c.self.inside.idle (sym c.is_some.ensures ∙ c.if-is_some.false)) c.self.invariant c.act-reply.ensures.opened
 
 pub invariant_of-self-else-is_over : goal.invariant_of-self-else-is_over
 invariant_of-self-else-is_over c =
     let kept = ap (λ (p : PlaceParts). is_over_at p.live.processor.stage) c.self.view_is ∙ c.requires.kept in
     acted_place c.self.inside.limits c.self.inside.slot c.act-reply.new.self c.self.inside.charts.items c.tenancy-tenancy.result c.args.act.now c.args.bytes.now _ c.act-reply.result c.act-reply.ensures.all_else
-    c.tenancy-tenancy.ensures kept c.act-reply.ensures.moment c.act-reply.ensures.into c.act-reply.ensures.answers c.self.inside.spare c.self.inside.idle _
+    c.tenancy-tenancy.ensures kept c.act-reply.ensures.moment c.act-reply.ensures.answers c.self.inside.spare c.self.inside.idle _
     (not_some c.self.inside.idle (sym c.is_some.ensures ∙ c.if-is_some.false)) c.self.invariant c.act-reply.ensures.opened
 
 -- where the request has ended, its chart was kept, and its connection left the slot
@@ -25,7 +25,7 @@ pub returns-then-is_over-clause-answers : goal.returns-then-is_over-clause-answe
 returns-then-is_over-clause-answers c =
     let kept = ap (λ (p : PlaceParts). is_over_at p.live.processor.stage) c.self.view_is ∙ c.requires.kept in
     rw (← c.self.view_is) (acted c.self.inside.limits c.self.inside.slot c.act-reply.new.self c.self.inside.charts.items c.tenancy-tenancy.result c.args.act.now c.args.bytes.now _ c.act-reply.result c.act-reply.ensures.all_else
-    c.tenancy-tenancy.ensures kept c.act-reply.ensures.moment c.act-reply.ensures.into c.act-reply.ensures.answers c.self.inside.idle c.finish.new.self.live
+    c.tenancy-tenancy.ensures kept c.act-reply.ensures.moment c.act-reply.ensures.answers c.self.inside.idle c.finish.new.self.live
     (not_some c.self.inside.idle (sym c.is_some.ensures ∙ c.if-is_some.false)) c.self.invariant.seated
     (record { lives = c.finish.ensures.lives; limits = c.finish.ensures.limits; line = c.finish.ensures.line }))
 
@@ -43,7 +43,7 @@ pub returns-else-is_over-clause-answers : goal.returns-else-is_over-clause-answe
 returns-else-is_over-clause-answers c =
     let kept = ap (λ (p : PlaceParts). is_over_at p.live.processor.stage) c.self.view_is ∙ c.requires.kept in
     rw (← c.self.view_is) (acted c.self.inside.limits c.self.inside.slot c.act-reply.new.self c.self.inside.charts.items c.tenancy-tenancy.result c.args.act.now c.args.bytes.now _ c.act-reply.result c.act-reply.ensures.all_else
-    c.tenancy-tenancy.ensures kept c.act-reply.ensures.moment c.act-reply.ensures.into c.act-reply.ensures.answers c.self.inside.idle _
+    c.tenancy-tenancy.ensures kept c.act-reply.ensures.moment c.act-reply.ensures.answers c.self.inside.idle _
     (not_some c.self.inside.idle (sym c.is_some.ensures ∙ c.if-is_some.false)) c.self.invariant.seated
     (record { lives = λ T s. s; limits = refl; line = refl }))
 

@@ -1,5 +1,7 @@
 -- What is left to show of `World::step`.
-use Rattle.std.proofs.Common.{◌≡◌, ◌<◌, ◌∷◌, ℕ, Some, None, is_some, refl, sym, ap, ◌∙◌, subst}
+use Rattle.std.proofs.Common.{◌≡◌, ◌<◌, ◌∷◌, ℕ, List, length, drop, Some, None, is_some, refl, sym, ap, ◌∙◌, subst, arith}
+use Rattle.std.proofs.lemmas.List.{take_at}
+use Rattle.cy_model.specs.Replies.{got_in}
 use Rattle.std.specs.Prelude.{option_copied}
 use Rattle.cy_world.specs.Answered.{entry_by}
 use Rattle.cy_world.specs.Worlds.{find_in}
@@ -85,7 +87,7 @@ invariant_of-self-2 c =
     sym c.get.ensures.value ∙ ap option_copied c.in-Some-Seated.is ∙ ap Some c.in-Some-Seated.field-0-is in
     let lent = is_lent c.self.invariant.0 _ c.conn_of-number.result c.in-Some-Seated.place c.index_mut-seat.result.now c.self.invariant.1 booked c.index_mut-seat.ensures.value in (
       c.args.step.now ∷ c.self.invariant.0,
-      (own_stands c.self.invariant.0 c.args.step.now c.conn_of-number.result c.in-Some-Seated.place _ c.index_mut-seat.result.now c.take.new.self c.retire_if_gone.new.seat c.in_ok-reply-2.reply _ _
+      (own_stands c.self.invariant.0 c.args.step.now c.conn_of-number.result c.in-Some-Seated.place _ c.index_mut-seat.result.now c.take.new.self c.retire_if_gone.new.seat c.in_ok-reply-2.reply c.take.new.into _ _
           c.conn_of-number.ensures c.self.invariant.1 booked lent.there c.take.ensures.who c.take.ensures.kept c.in_ok-reply-2.ensures.counts c.in_ok-reply-2.ensures.slot c.in_ok-reply-2.ensures.answers c.retire_if_gone.ensures).stands,
     )
 
@@ -94,8 +96,12 @@ returns-clause-takes c =
     let booked : find_in c.conn_of-number.result c.self.inside.book.entries ≡ Some (Seated c.in-Some-Seated.place) =
     sym c.get.ensures.value ∙ ap option_copied c.in-Some-Seated.is ∙ ap Some c.in-Some-Seated.field-0-is in
     let lent = is_lent c.self.invariant.0 _ c.conn_of-number.result c.in-Some-Seated.place c.index_mut-seat.result.now c.self.invariant.1 booked c.index_mut-seat.ensures.value in
-    rw (← c.self.view_is) (λ w stands. answered_as w c.args.step.now _ _ _ _ c.without_bytes-2.ensures
-    (own_stands w c.args.step.now c.conn_of-number.result c.in-Some-Seated.place _ c.index_mut-seat.result.now c.take.new.self c.retire_if_gone.new.seat c.in_ok-reply-2.reply _ _
+    let content = c.in_ok-content.content in
+    let size : length c.take.new.into ≡ content.len = omega (arith, c.deref_mut.ensures.len, content.ok) in
+    let kept = take_at c.take.new.into (drop (length c.take.new.into) content.items) content.len size in
+    rw (← c.self.view_is) (λ w stands. answered_as w c.args.step.now _ _ _ _
+    (ap (λ (u : List ℕ). record { reply = c.in_ok-reply-2.reply; got = u }) (c.got_in-got.ensures ∙ ap (got_in c.in_ok-reply-2.reply) kept))
+    (own_stands w c.args.step.now c.conn_of-number.result c.in-Some-Seated.place _ c.index_mut-seat.result.now c.take.new.self c.retire_if_gone.new.seat c.in_ok-reply-2.reply c.take.new.into _ _
     c.conn_of-number.ensures stands booked lent.there c.take.ensures.who c.take.ensures.kept c.in_ok-reply-2.ensures.counts c.in_ok-reply-2.ensures.slot c.in_ok-reply-2.ensures.answers c.retire_if_gone.ensures))
 
 pub returns-in_err-reply-2-clause-unchanged : goal.returns-in_err-reply-2-clause-unchanged
