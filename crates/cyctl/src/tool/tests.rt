@@ -165,7 +165,7 @@ fn replayed(alloc: Global, script: &[u8]) -> Result<(u8, Vec<u8>), Fail> {
 }
 
 /// Whole scripts and their reports.
-const ROWS: [(&[u8], &[u8]); 12] = [
+const ROWS: [(&[u8], &[u8]); 14] = [
     // Nothing happens.
     (b"coyote-script 1", b""),
     // Nobody is admitted.
@@ -218,6 +218,16 @@ const ROWS: [(&[u8], &[u8]); 12] = [
         b"coyote-script 1\nrule /x/* 0 sync\nadmit 1\nin 1 \"GET / HTTP/1.1\\r\\nHost: a\\r\\n\\r\\n\"\nrun 1\n",
         b"1 Entered\n2 Taken 27\n3 Idle\nconn 1 open took 0 of 110\nout \"HTTP/1.1 404 \\r\\nContent-Type: text/plain\\r\\nContent-Length: 10\\r\\nDate: Thu, 01 Jan 1970 00:00:00 GMT\\r\\n\\r\\nError 404\\n\"\nchart 1 1\n",
     ),
+    // A body in chunks is read to its end.
+    (
+        b"coyote-script 1\nrule / 0 async\nadmit 1\nin 1 \"POST / HTTP/1.1\\r\\nHost: a\\r\\nTransfer-Encoding: chunked\\r\\n\\r\\n3;x=1\\r\\nabc\\r\\n2\\r\\nde\\r\\n0\\r\\nT: v\\r\\n\\r\\n\"\nrun 1\nact 1 read 10\nact 1 read 10\n",
+        b"1 Entered\n2 Taken 86\n3 Begun service 0\n4 Got \"abcde\"\n5 GotEnd\nconn 1 open took 0 of 0\nout \"\"\nchart 1 1 Run\n",
+    ),
+    // Nobody reads a body, and a head stands behind it.
+    (
+        b"coyote-script 1\nrule / 0 async\nadmit 1\nin 1 \"POST / HTTP/1.1\\r\\nHost: a\\r\\nContent-Length: 3\\r\\n\\r\\nxyzGET / HTTP/1.1\\r\\nHost: a\\r\\n\\r\\n\"\nrun 1\nreturn 1\nrun 1\nreturn 1\n",
+        b"1 Entered\n2 Taken 77\n3 Begun service 0\n4 Done\n5 Begun service 0\n6 Done\nconn 1 open took 0 of 146\nout \"HTTP/1.1 200 \\r\\nContent-Length: 0\\r\\nDate: Thu, 01 Jan 1970 00:00:00 GMT\\r\\n\\r\\nHTTP/1.1 200 \\r\\nContent-Length: 0\\r\\nDate: Thu, 01 Jan 1970 00:00:00 GMT\\r\\n\\r\\n\"\nchart 1 1 Run Return\nchart 1 2 Run Return\n",
+    ),
     // A browser's head.
     (
         b"coyote-script 1\nrule / 0 async\nrule /app/* 1 sync\nadmit 1\nin 1 \"GET /app/list?page=2 HTTP/1.1\\r\\nHost: localhost:8080\\r\\nUser-Agent: Mozilla/5.0 (X11; Linux x86_64; rv:128.0) Gecko/20100101 Firefox/128.0\\r\\nAccept: text/html,application/xhtml+xml,application/xml;q=0.9,*/*;q=0.8\\r\\nAccept-Language: en-US,en;q=0.5\\r\\nAccept-Encoding: gzip, deflate, br\\r\\nConnection: keep-alive\\r\\nCookie: theme=dark; id=42\\r\\nUpgrade-Insecure-Requests: 1\\r\\nSec-Fetch-Dest: document\\r\\nSec-Fetch-Mode: navigate\\r\\nSec-Fetch-Site: none\\r\\nSec-Fetch-User: ?1\\r\\nCache-Control: no-cache\\r\\nPragma: no-cache\\r\\n\\r\\n\"\nrun 1\nreturn 1\n",
@@ -232,6 +242,28 @@ fn whole_scripts(rt: HostRuntime) -> Result<(), Fail> {
         assert_eq!(rt; status, 0);
         assert_eq!(rt; written.as_slice(), report);
     }
+    Ok(())
+}
+
+/// The body in chunks of the table, with its head, in single bytes: it is read as in one piece.
+#[test]
+fn single_bytes(rt: HostRuntime) -> Result<(), Fail> {
+    let alloc = rt.alloc();
+    let input =
+        b"POST / HTTP/1.1\r\nHost: a\r\nTransfer-Encoding: chunked\r\n\r\n3;x=1\r\nabc\r\n2\r\nde\r\n0\r\nT: v\r\n\r\n";
+    let mut script = String::from_str(alloc, "coyote-script 1\nrule / 0 async\nadmit 1\n")?;
+    let mut report = String::from_str(alloc, "1 Entered\n")?;
+    for (place, byte) in input.iter().enumerate() {
+        script.push_str(format!(in alloc; "in 1 \"\\x{byte:02x}\"\n")?.as_str())?;
+        let number = place.saturating_add(2);
+        report.push_str(format!(in alloc; "{number} Taken 1\n")?.as_str())?;
+    }
+    script.push_str("run 1\nact 1 read 10\nact 1 read 10\n")?;
+    report.push_str("88 Begun service 0\n89 Got \"abcde\"\n90 GotEnd\n")?;
+    report.push_str("conn 1 open took 0 of 0\nout \"\"\nchart 1 1 Run\n")?;
+    let (status, written) = replayed(alloc, script.as_bytes())?;
+    assert_eq!(rt; status, 0);
+    assert_eq!(rt; written.as_slice(), report.as_bytes());
     Ok(())
 }
 
