@@ -1,6 +1,6 @@
 -- Edges of bodies: two on one connection, the byte that makes one bad, trailers past their limit, the input's end behind
 -- a whole one, output that waits for the socket, and more bytes than there is room for. Written down by hand.
-use Rattle.std.proofs.Common.{◌≡◌, ℕ, true, false, List, [], ◌∷◌, ◌++◌, Option, Some, None, codes, length, refl, replicate, take}
+use Rattle.std.proofs.Common.{◌≡◌, ℕ, true, false, List, [], ◌∷◌, ◌++◌, Some, None, codes, length, refl, replicate, take}
 use Rattle.std.specs.Prelude.{⊤, map}
 use Rattle.std.specs.Fmt.{digits}
 use Rattle.std.specs.Str.{is_utf8, chars}
@@ -12,7 +12,6 @@ use Rattle.cy_event.specs.declared.limits.Limits.{Limits}
 use Rattle.cy_event.specs.declared.steps.Act.TheVariants as act
 use Rattle.cy_event.specs.declared.steps.Call.{Call}
 use Rattle.cy_event.specs.declared.steps.Call.TheVariants as call
-use Rattle.cy_event.specs.declared.steps.CloseCause.{CloseCause}
 use Rattle.cy_event.specs.declared.steps.CloseCause.TheVariants as cause
 use Rattle.cy_event.specs.declared.steps.Event.TheVariants as event
 use Rattle.cy_event.specs.declared.steps.Job.TheVariants as job
@@ -31,7 +30,7 @@ use Rattle.cy_model.specs.Inputs.{room, waiting}
 use Rattle.cy_model.specs.Marks.{Mark, Trace, back, began, called, came, caused, ended, opened, over, put, started}
 use Rattle.cy_model.specs.Replies.{Replied, plain}
 use Rattle.cy_model.specs.Reports.{reply_text}
-use Rattle.cy_model.specs.Settling.{next_move, settled, with_marks}
+use Rattle.cy_model.specs.Settling.{body_move, input_move, settled, with_marks}
 use Rattle.cy_model.specs.Verdicts.{verdict_of}
 
 -- what these rows unfold
@@ -205,13 +204,12 @@ abbrev much : List ℕ → Trace
 much bytes = then (service (framing.Length 10))
     (put (replicate 16384 97) ∷ back ∷ called call.Return None ∷ over ∷ came bytes ∷ [])
 
-limit_of_much : next_move (record (standard 1) { max_swallow = 2 }) rules (much (codes "abc"))
-    ≡ Some (caused cause.SwallowLimit ∷ [])
-unfolding entries_on_literals
+limit_of_much : body_move (record (standard 1) { max_swallow = 2 }) (much (codes "abc")) ≡ Some (caused cause.SwallowLimit ∷ [])
+unfolding bodies_on_literals
 limit_of_much = refl
 
-end_of_much : next_move (standard 1) rules (then (much (codes "abc")) (ended ∷ [])) ≡ Some (caused cause.InputEnd ∷ [])
-unfolding entries_on_literals
+end_of_much : input_move (then (much (codes "abc")) (ended ∷ [])) ≡ Some (caused cause.InputEnd ∷ [])
+unfolding bodies_on_literals
 end_of_much = refl
 
 -- ---- of a piece as many bytes come as there is room for

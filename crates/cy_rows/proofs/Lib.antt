@@ -64,6 +64,7 @@ pub mod PathRows
 pub mod ShapeRows
 pub mod ReplyRows
 pub mod WorkedRunRows
+pub mod EdgeRows
 pub mod GrammarRows
 pub mod PieceRows
 pub mod HistoryRows
