@@ -1,5 +1,5 @@
 -- A body that is bad, and one of which too much was passed over, close their connection.
-use Rattle.std.proofs.Common.{◌≡◌, ◌<◌, ◌≤◌, ℕ, ◌+◌, Bool, true, false, List, [], ◌∷◌, Option, Some, None, is_none, is_some, nat_le, nat_lt, option_map, refl, sym, ap, ◌∙◌, if◌then◌else◌}
+use Rattle.std.proofs.Common.{◌≡◌, ◌≤◌, ℕ, ◌+◌, Bool, true, false, List, [], ◌∷◌, Option, Some, None, is_none, is_some, nat_le, nat_lt, option_map, refl, ap, ◌∙◌, if◌then◌else◌}
 use Rattle.std.proofs.lemmas.Bool.{lt-ltb}
 use Rattle.cy_event.specs.declared.limits.Limits.{Limits}
 use Rattle.cy_event.specs.declared.body.BodyMark.{BodyMark}

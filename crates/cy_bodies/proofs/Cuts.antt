@@ -1,5 +1,5 @@
 -- The bytes that came are cut into requests: heads, and the bodies that are written behind them.
-use Rattle.std.proofs.Common.{◌≡◌, ◌≤◌, ℕ, ◌+◌, true, List, [], ◌∷◌, ◌++◌, All, drop, length, length-append, length-drop, take, take-append-drop, Option, Some, None, arith, refl, sym, ap, ◌∙◌, subst}
+use Rattle.std.proofs.Common.{◌≡◌, ℕ, ◌+◌, true, List, [], ◌∷◌, ◌++◌, All, drop, length, take, take-append-drop, Option, Some, None, arith, refl, sym, ap, ◌∙◌, subst}
 use Rattle.std.proofs.lemmas.List.{drop-drop, length-take-le}
 use Rattle.std.proofs.lemmas.List.Elements.{All-head, All-tail}
 use Rattle.cy_event.specs.declared.limits.Limits.{Limits}
@@ -7,11 +7,10 @@ use Rattle.cy_event.specs.Bodies.{body_of, whole}
 use Rattle.cy_event.proofs.Fronts.{front_length-bounds, head_of-found}
 use Rattle.cy_in.proofs.Joins.{append_nil}
 use Rattle.cy_in.proofs.WholeWritten.{whole_is_written}
-use Rattle.cy_map.specs.declared.rule.Rule.{Rule}
 use Rattle.cy_model.specs.Entries.{trace_of}
 use Rattle.cy_model.specs.Folds.{bytes_of, last_taken, requests_of}
 use Rattle.cy_model.specs.Inputs.{behind_head, consumed, consumed_by, used}
-use Rattle.cy_model.specs.Laws.{AreAtTheirPlaces, AreInRow, Follows, HasBody, IsAtPlace, last_of}
+use Rattle.cy_model.specs.Laws.{AreAtTheirPlaces, AreInRow, Follows, IsAtPlace, last_of}
 use Rattle.cy_model.specs.Marks.{TakenUp, Trace, began}
 use Rattle.cy_model.specs.Settling.{may_begin}
 use Rattle.cy_model.proofs.Places.{heads_are_at_their_places}
@@ -79,13 +78,12 @@ cut limits bytes more from (r ∷ q ∷ rs) at row =
     let later = cut limits bytes more (r.place + r.size + row.1) (q ∷ rs) (All-tail (IsAtPlace limits bytes) r (q ∷ rs) at) row.3 in
     let place : r.place + r.size + row.1 ≡ from + r.size + length b.begins.body = omega (arith, row.0, b.size) in
     let rest : drop (r.place + r.size + row.1) all ≡ b.begins.behind =
-    sym (b.rest ∙ ap (drop row.1) at_body ∙ drop-drop row.1 (r.place + r.size) all) in
-    (
+    sym (b.rest ∙ ap (drop row.1) at_body ∙ drop-drop row.1 (r.place + r.size) all) in (
       row.0,
       h.begins,
       b.begins,
       subst (λ (bs : List ℕ). AreCut (from + r.size + length b.begins.body) bs (q ∷ rs)) rest
-      (subst (λ (n : ℕ). AreCut n (drop (r.place + r.size + row.1) all) (q ∷ rs)) place later),
+          (subst (λ (n : ℕ). AreCut n (drop (r.place + r.size + row.1) all) (q ∷ rs)) place later),
     )
 
 -- ---- the next
