@@ -1,5 +1,10 @@
 //! Laws of bodies: a function without parameters and without a body has the law as its contract.
-ghost use Rattle.cy_bodies.specs.Laws.{HeadsFollowWrittenBodies, InputEndsWithin, WrongBodiesClose};
+ghost use Rattle.cy_bodies.specs.Laws.{BytesAreHeldWithin, HeadsFollowWrittenBodies, InputEndsWithin, WrongBodiesClose};
+
+/// At no point are more than 16,384 bytes held beyond those that are consumed.
+pub fn bytes_are_held_within()
+    ensures { BytesAreHeldWithin }
+{}
 
 /// The next head stands where the written body of the request before it ends, whatever was read or passed over,
 /// whatever comes later and however the bytes were cut. No byte belongs to two requests.
