@@ -1,0 +1,5 @@
+pub mod Closes
+pub mod Consumed
+pub mod Cuts
+pub mod Held
+pub mod InputEnds
