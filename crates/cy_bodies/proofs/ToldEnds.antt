@@ -2,7 +2,8 @@
 use Rattle.std.proofs.Common.{◌≡◌, ◌≤◌, ℕ, ◌-◌, Bool, true, false, cond, List, [], ◌∷◌, drop, length, length-drop, take, take-append-drop, Option, Some, None, is_some, arith, refl, sym, ap, ◌∙◌, subst, if◌then◌else◌}
 use Rattle.std.proofs.lemmas.List.{take_all}
 use Rattle.cy_event.specs.declared.limits.Limits.{Limits}
-use Rattle.cy_event.specs.declared.body.BodyMark.{BodyMark}
+use Rattle.cy_event.specs.declared.body.BodyStage.{BodyStage}
+use Rattle.cy_event.specs.declared.body.BodyStage.TheVariants as stage
 use Rattle.cy_event.specs.declared.steps.Act.{Act}
 use Rattle.cy_event.specs.declared.steps.Act.TheVariants as act
 use Rattle.cy_event.specs.declared.steps.Event.{Event}
@@ -10,7 +11,7 @@ use Rattle.cy_event.specs.declared.steps.Event.TheVariants as event
 use Rattle.cy_event.specs.declared.steps.Job.{Job}
 use Rattle.cy_event.specs.declared.steps.Reply.{Reply}
 use Rattle.cy_event.specs.declared.steps.Reply.TheVariants as reply
-use Rattle.cy_event.specs.Bodies.{body_at, body_of, body_start, scan_bytes, whole}
+use Rattle.cy_event.specs.Bodies.{Body, body_of, body_start, scan_bytes, whole}
 use Rattle.cy_event.specs.BodyGrammar.{IsBody}
 use Rattle.cy_in.proofs.BodiesAt.{whole_at}
 use Rattle.cy_in.proofs.WholeWritten.{whole_is_written}
@@ -24,7 +25,6 @@ use Rattle.cy_model.specs.Reads.{reading_by, reading_reply}
 use Rattle.cy_model.specs.Replies.{Replied, plain}
 use Rattle.cy_model.specs.Settling.{settled}
 use Rattle.cy_model.proofs.Ends.{Ends, ends_kept, nothing_ends, runs_open}
-use Rattle.cy_model.proofs.Places.{is_whole_stage}
 use Rattle.cy_model.proofs.TraceInduction.{trace_keeps}
 use Rattle.cy_bodies.specs.ContentLaws.{EndsAreToldLast, IsAllContentOf}
 use Rattle.cy_bodies.specs.Handed.{content_came, handed_to, numbered}
@@ -46,8 +46,8 @@ IsAtEnd T = (waiting T ≡ []) × (has_whole_body T ≡ true)
 abbrev IsEnd : Replied → Type 0
 IsEnd r = r.reply ≡ reply.GotEnd
 
-reading_end : (n : ℕ) (waits : List ℕ) (whole : Bool) → IsEnd (reading_reply (reading_by n waits whole)) → (waits ≡ []) × (whole ≡ true)
-reading_end n (x ∷ waits) whole e = cc
+reading_end : (n : ℕ) (waits : List ℕ) (v : Bool) → IsEnd (reading_reply (reading_by n waits v)) → (waits ≡ []) × (v ≡ true)
+reading_end n (x ∷ waits) v e = cc
 reading_end n [] true e = (refl, refl)
 reading_end n [] false e = cc
 
@@ -104,12 +104,16 @@ open_last ((t, m) ∷ T) e = open_last T e
 
 -- ---- all of the content
 
+whole_stage_of : (s : BodyStage) → is_whole s ≡ true → s ≡ stage.Whole
+whole_stage_of stage.Whole e = refl
+whole_stage_of s e = cc
+
 -- the whole body is written, with what came as its content
 all_written : (T : Trace) (r : TakenUp) → last_taken T ≡ Some r → has_whole_body T ≡ true
     → (n : ℕ) × (body_of r.max_trailer r.framing (behind_head (bytes_of T) r) ≡ whole (content_came (bytes_of T) r) n)
 all_written T r is whole_now =
     let m = scan_bytes r.max_trailer (body_start r.framing) (behind_head (bytes_of T) r) in
-    let at_end = is_whole_stage m.stage (sym (ap (λ (o : Option TakenUp). is_whole (scan_by o (bytes_of T)).stage) is) ∙ whole_now) in
+    let at_end = whole_stage_of m.stage (sym (ap (λ (o : Option TakenUp). is_whole (scan_by o (bytes_of T)).stage) is) ∙ whole_now) in
     (m.raw, whole_at m (content_came (bytes_of T) r) m.stage at_end)
 
 -- where none waits of a whole body, all is given
@@ -118,7 +122,7 @@ none_left : (T : Trace) (r : TakenUp) (n : ℕ) → last_taken T ≡ Some r → 
 none_left T r n is body none =
     let content = content_came (bytes_of T) r in
     let left : drop (given_count T) content ≡ [] =
-    sym (ap (λ (o : Option TakenUp). waiting_of (body_by o (bytes_of T)) (given_count T)) is ∙ ap (λ b. waiting_of b (given_count T)) body) ∙ none in
+    sym (ap (λ (o : Option TakenUp). waiting_of (body_by o (bytes_of T)) (given_count T)) is ∙ ap (λ (b : Body). waiting_of b (given_count T)) body) ∙ none in
     omega (arith, ap length left, length-drop (given_count T) content)
 
 all_given : (T : Trace) (r : TakenUp) (held : List ℕ) → last_taken T ≡ Some r → has_whole_body T ≡ true → waiting T ≡ []
