@@ -1,5 +1,5 @@
 -- How much is held at each point of a trace, between two moves of the container too.
-use Rattle.std.proofs.Common.{◌≡◌, ◌≤◌, ℕ, ◌+◌, ◌-◌, min, Bool, true, false, not, ◌&&◌, List, [], ◌∷◌, ◌++◌, length, length-append, length-drop, Option, Some, None, arith, refl, sym, ap, subst, if◌then◌else◌}
+use Rattle.std.proofs.Common.{◌≡◌, ◌≤◌, ℕ, ◌+◌, ◌-◌, min, Bool, true, false, not, ◌&&◌, List, ◌∷◌, ◌++◌, length, length-append, length-drop, Option, Some, None, arith, refl, sym, ap, subst, if◌then◌else◌}
 use Rattle.cy_event.specs.declared.limits.Limits.{Limits}
 use Rattle.cy_event.specs.declared.body.BodyMark.{BodyMark}
 use Rattle.cy_event.specs.Bodies.{body_start, give_bytes, scan_bytes}
@@ -10,7 +10,7 @@ use Rattle.cy_model.specs.Inputs.{behind_head, consumed, consumed_by, given_coun
 use Rattle.cy_model.specs.Marks.{Mark, TakenUp, Trace, began, came, given, end_given, over}
 use Rattle.cy_model.proofs.InputInduction.{KeptByInput, brings, kept_by_input}
 use Rattle.cy_model.proofs.TraceInduction.{trace_keeps}
-use Rattle.cy_bodies.specs.ContentLaws.{BytesAreHeldWithin, HoldsFew}
+use Rattle.cy_bodies.specs.Laws.{BytesAreHeldWithin, HoldsFew}
 use Rattle.cy_bodies.proofs.Prefixes.{drop_longer, give_longer, give_more, give_within, scan_goes}
 use Rattle.cy_bodies.proofs.Walks.{AllFit, entries_fit}
 

@@ -1,5 +1,5 @@
 -- How far the mark of a body goes: it never goes back, by more bytes, by more content, or by the end.
-use Rattle.std.proofs.Common.{◌≡◌, ◌≤◌, ℕ, zero, suc, ◌+◌, Bool, true, false, List, [], ◌∷◌, ◌++◌, drop, arith, refl, cond}
+use Rattle.std.proofs.Common.{◌≡◌, ◌≤◌, ℕ, zero, suc, Bool, true, false, List, [], ◌∷◌, ◌++◌, drop, arith, refl, cond}
 use Rattle.cy_event.specs.declared.body.BodyMark.{BodyMark}
 use Rattle.cy_event.specs.declared.body.BodyStage.{BodyStage}
 use Rattle.cy_event.specs.Bodies.{Given, advanced, given_before, give_bytes, is_bad, is_content, is_over, next_stage, scan_byte, scan_bytes}
@@ -41,7 +41,7 @@ give_longer max (suc n) m [] ys = give_goes max (suc n) m ys
 give_longer max (suc n) m (b ∷ xs) ys =
     let s = scan_byte max m b in
     elim (is_content m.stage) as (λ v. (cond v (given_before b (give_bytes max n s xs)) (give_bytes max (suc n) s xs)).mark.raw
-        ≤ (cond v (given_before b (give_bytes max n s (xs ++ ys))) (give_bytes max (suc n) s (xs ++ ys))).mark.raw) [
+    ≤ (cond v (given_before b (give_bytes max n s (xs ++ ys))) (give_bytes max (suc n) s (xs ++ ys))).mark.raw) [
       | true ↦ give_longer max n s xs ys
       | false ↦ give_longer max (suc n) s xs ys
     ]
@@ -54,7 +54,7 @@ give_more max (suc n) (suc k) m [] less = omega arith
 give_more max (suc n) (suc k) m (b ∷ bytes) less =
     let s = scan_byte max m b in
     elim (is_content m.stage) as (λ v. (cond v (given_before b (give_bytes max n s bytes)) (give_bytes max (suc n) s bytes)).mark.raw
-        ≤ (cond v (given_before b (give_bytes max k s bytes)) (give_bytes max (suc k) s bytes)).mark.raw) [
+    ≤ (cond v (given_before b (give_bytes max k s bytes)) (give_bytes max (suc k) s bytes)).mark.raw) [
       | true ↦ give_more max n k s bytes (omega (arith, less))
       | false ↦ give_more max (suc n) (suc k) s bytes less
     ]

@@ -1,5 +1,5 @@
 -- The end of the content is told only once all of it was handed over, and the body is whole.
-use Rattle.std.proofs.Common.{◌≡◌, ◌≤◌, ℕ, ◌-◌, Bool, true, false, cond, List, [], ◌∷◌, drop, length, length-drop, take, take-append-drop, Option, Some, None, is_some, arith, refl, sym, ap, ◌∙◌, subst, if◌then◌else◌}
+use Rattle.std.proofs.Common.{◌≡◌, ◌≤◌, ℕ, Bool, true, false, List, [], ◌∷◌, drop, length, length-drop, take, take-append-drop, Option, Some, None, is_some, arith, refl, sym, ap, ◌∙◌, subst, if◌then◌else◌}
 use Rattle.std.proofs.lemmas.List.{take_all}
 use Rattle.cy_event.specs.declared.limits.Limits.{Limits}
 use Rattle.cy_event.specs.declared.body.BodyStage.{BodyStage}
@@ -9,14 +9,13 @@ use Rattle.cy_event.specs.declared.steps.Act.TheVariants as act
 use Rattle.cy_event.specs.declared.steps.Event.{Event}
 use Rattle.cy_event.specs.declared.steps.Event.TheVariants as event
 use Rattle.cy_event.specs.declared.steps.Job.{Job}
-use Rattle.cy_event.specs.declared.steps.Reply.{Reply}
 use Rattle.cy_event.specs.declared.steps.Reply.TheVariants as reply
 use Rattle.cy_event.specs.Bodies.{Body, body_of, body_start, scan_bytes, whole}
 use Rattle.cy_event.specs.BodyGrammar.{IsBody}
 use Rattle.cy_in.proofs.BodiesAt.{whole_at}
 use Rattle.cy_in.proofs.WholeWritten.{whole_is_written}
 use Rattle.cy_map.specs.declared.rule.Rule.{Rule}
-use Rattle.cy_model.specs.Entries.{Entry, opening, tick, on_event, on_run, on_act, act_reply, callback_reply, event_reply, is_closed_act, is_closed_to, is_full, job_reply, open_act_reply, owed_after, reply_to, trace_of, turn_reply, write_takes}
+use Rattle.cy_model.specs.Entries.{Entry, opening, tick, on_event, on_run, on_act, act_reply, callback_reply, event_reply, is_closed_act, is_closed_to, is_full, job_reply, open_act_reply, owed_after, reply_to, trace_of, write_takes}
 use Rattle.cy_model.specs.Folds.{begun_count, bytes_of, is_open, last_taken, running}
 use Rattle.cy_model.specs.Inputs.{behind_head, body_by, given_count, has_whole_body, is_whole, scan_by, waiting, waiting_of}
 use Rattle.cy_model.specs.Marks.{TakenUp, Trace, began, over}
@@ -27,8 +26,8 @@ use Rattle.cy_model.specs.Settling.{settled}
 use Rattle.cy_model.proofs.Ends.{Ends, ends_kept, nothing_ends, runs_open}
 use Rattle.cy_model.proofs.TraceInduction.{trace_keeps}
 use Rattle.cy_bodies.specs.ContentLaws.{EndsAreToldLast, IsAllContentOf}
-use Rattle.cy_bodies.specs.Handed.{content_came, handed_to, numbered}
-use Rattle.cy_bodies.proofs.GivenContent.{given_to, handed_told, requests_given, told}
+use Rattle.cy_bodies.specs.Handed.{content_came, handed_to}
+use Rattle.cy_bodies.proofs.GivenContent.{handed_told, requests_given}
 
 -- ---- where the end is told
 

@@ -1,5 +1,5 @@
 -- What one entry adds to the input and gives of it: the bytes that there is room for, the content that waits, or nothing.
-use Rattle.std.proofs.Common.{◌≡◌, ◌≤◌, ℕ, Bool, true, false, cond, length, length-take, arith, take, List, [], ◌∷◌, Option, Some, None, is_some, refl, subst, ◌==◌}
+use Rattle.std.proofs.Common.{◌≡◌, ◌≤◌, ℕ, Bool, true, false, cond, length, length-take, arith, take, List, [], ◌∷◌, Option, Some, None, is_some, refl, subst}
 use Rattle.cy_event.specs.declared.limits.Limits.{Limits}
 use Rattle.cy_event.specs.declared.steps.Act.{Act}
 use Rattle.cy_event.specs.declared.steps.Act.TheVariants as act
@@ -88,7 +88,7 @@ module _ (limits : Limits) (rules : List Rule) (t : ℕ) (T : Trace) (W : Trace 
   act_walks : (a : Act) (b : List ℕ) → W (after_act limits rules t T (act_marks limits T a b)) (act_reply limits T a).got
   act_walks a b =
       elim (is_closed_act a T) as (λ v. W (after_act limits rules t T (cond v None (open_act_marks limits T a b)))
-          (cond v (plain reply.Closed) (open_act_reply limits T a)).got) [
+      (cond v (plain reply.Closed) (open_act_reply limits T a)).got) [
         | true ↦ k.start
         | false ↦ open_act_walks a b
       ]
@@ -96,7 +96,7 @@ module _ (limits : Limits) (rules : List Rule) (t : ℕ) (T : Trace) (W : Trace 
   callback_walks : (a : Act) (b : List ℕ) → W (after_callback limits rules t T a b) (callback_reply limits T a).got
   callback_walks a b =
       elim (is_some (running T)) as (λ v. W (cond v (after_act limits rules t T (act_marks limits T a b)) T)
-          (cond v (act_reply limits T a) (plain reply.NotActive)).got) [
+      (cond v (act_reply limits T a) (plain reply.NotActive)).got) [
         | true ↦ act_walks a b
         | false ↦ k.start
       ]

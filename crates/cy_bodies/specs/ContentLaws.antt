@@ -1,13 +1,13 @@
--- Laws of what requests are given of their bodies, and of how much is held, over every list of entries. Each is the
--- contract of a public function without a body.
-use Rattle.std.specs.Prelude.{◌≡◌, ◌≤◌, ℕ, ◌+◌, List, [], ◌∷◌, ◌++◌, length, Some}
+-- Laws of what requests are given of their bodies, over every list of entries, in the words of the grammar of bodies. Each
+-- is the contract of a public function without a body.
+use Rattle.std.specs.Prelude.{◌≡◌, ℕ, List, ◌++◌, Some}
 use Rattle.cy_event.specs.declared.limits.Limits.{Limits}
 use Rattle.cy_event.specs.declared.steps.Reply.TheVariants as reply
 use Rattle.cy_event.specs.BodyGrammar.{IsBody}
 use Rattle.cy_map.specs.declared.rule.Rule.{Rule}
 use Rattle.cy_model.specs.Entries.{Entry, reply_to, trace_of}
 use Rattle.cy_model.specs.Folds.{begun_count, bytes_of, last_taken}
-use Rattle.cy_model.specs.Inputs.{behind_head, consumed}
+use Rattle.cy_model.specs.Inputs.{behind_head}
 use Rattle.cy_model.specs.Marks.{TakenUp, Trace}
 use Rattle.cy_bodies.specs.Handed.{content_came, handed_to, numbered}
 
@@ -53,15 +53,3 @@ EndsAreToldLast =
     → (reply_to limits rules t (trace_of limits rules entries) e).reply ≡ reply.GotEnd
     → LastGotAll (handed_to limits rules (begun_count (trace_of limits rules entries)) entries)
     (trace_of limits rules entries)
-
--- ---- how much is held
-
--- at this point of a trace and at each before it at most 16,384 of the bytes that came aren't consumed; the bound is own
-abbrev pub HoldsFew : Trace → Type 0
-HoldsFew [] = Unit {0}
-HoldsFew ((t, m) ∷ T) = (length (bytes_of ((t, m) ∷ T)) ≤ consumed ((t, m) ∷ T) + 16384) × HoldsFew T
-
--- whatever the entries of a connection are, between two moves of the container too
-abbrev pub BytesAreHeldWithin : Type 0
-BytesAreHeldWithin =
-    (limits : Limits) (rules : List Rule) (entries : List (ℕ × Entry)) → HoldsFew (trace_of limits rules entries)

@@ -12,6 +12,18 @@ use Rattle.cy_model.specs.Inputs.{behind_head, consumed, swallowed}
 use Rattle.cy_model.specs.Marks.{TakenUp, Trace}
 use Rattle.cy_model.specs.Settling.{front_of, is_awaited, may_begin, settled}
 
+-- ---- how much is held
+
+-- at this point of a trace and at each before it at most 16,384 of the bytes that came aren't consumed; the bound is own
+abbrev pub HoldsFew : Trace → Type 0
+HoldsFew [] = Unit {0}
+HoldsFew ((t, m) ∷ T) = (length (bytes_of ((t, m) ∷ T)) ≤ consumed ((t, m) ∷ T) + 16384) × HoldsFew T
+
+-- whatever the entries of a connection are, between two moves of the container too
+abbrev pub BytesAreHeldWithin : Type 0
+BytesAreHeldWithin =
+    (limits : Limits) (rules : List Rule) (entries : List (ℕ × Entry)) → HoldsFew (trace_of limits rules entries)
+
 -- ---- where heads stand (RFC 9112, sections 6.3, 9.3 and 11.2)
 
 -- the bytes begin with the head of a request, and this is what stands behind it

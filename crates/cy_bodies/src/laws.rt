@@ -1,6 +1,6 @@
 //! Laws of bodies: a function without parameters and without a body has the law as its contract.
-ghost use Rattle.cy_bodies.specs.ContentLaws.{BytesAreHeldWithin, EndsAreToldLast, RequestsGetTheirContent};
-ghost use Rattle.cy_bodies.specs.Laws.{HeadsFollowWrittenBodies, InputEndsWithin, WrongBodiesClose};
+ghost use Rattle.cy_bodies.specs.ContentLaws.{EndsAreToldLast, RequestsGetTheirContent};
+ghost use Rattle.cy_bodies.specs.Laws.{BytesAreHeldWithin, HeadsFollowWrittenBodies, InputEndsWithin, WrongBodiesClose};
 
 /// What the replies handed over to a request, joined in order, is a prefix of the content of its body: of what came of
 /// it, and of the body that is written there.
