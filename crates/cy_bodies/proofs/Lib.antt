@@ -1,5 +1,8 @@
 pub mod Closes
-pub mod Consumed
-pub mod Cuts
-pub mod Held
 pub mod InputEnds
+pub mod Cuts
+pub mod Prefixes
+pub mod Walks
+pub mod Held
+pub mod GivenContent
+pub mod ToldEnds

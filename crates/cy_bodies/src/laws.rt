@@ -1,5 +1,17 @@
 //! Laws of bodies: a function without parameters and without a body has the law as its contract.
+ghost use Rattle.cy_bodies.specs.ContentLaws.{EndsAreToldLast, RequestsGetTheirContent};
 ghost use Rattle.cy_bodies.specs.Laws.{BytesAreHeldWithin, HeadsFollowWrittenBodies, InputEndsWithin, WrongBodiesClose};
+
+/// What the replies handed over to a request, joined in order, is a prefix of the content of its body: of what came of
+/// it, and of the body that is written there.
+pub fn requests_get_their_content()
+    ensures { RequestsGetTheirContent }
+{}
+
+/// The end of the content is told only where the body is whole, and only after all of its content was handed over.
+pub fn ends_are_told_last()
+    ensures { EndsAreToldLast }
+{}
 
 /// At no point are more than 16,384 bytes held beyond those that are consumed.
 pub fn bytes_are_held_within()
