@@ -18,7 +18,7 @@ STEPS = [
     ("", "the head is read into its table, and judged", "`Processor::open`: head, target, framing, rule", ["cy_head", "cy_target", "cy_framing", "cy_map"]),
     ("", "a request begins: its service is owed", "it is open, in DISPATCHED", ["cy_proc", "cy_states"]),
     ("worker", "a worker turns to it, and the service begins", "`Processor::run`: the call Run", ["cy_proc", "cy_states"]),
-    ("component", "the component writes content, and returns", "`Processor::act`: the call Return ends it", ["cy_proc", "cy_states"]),
+    ("component", "the component reads, writes, and returns", "`Processor::act`: the call Return ends it", ["cy_proc", "cy_in", "cy_states"]),
     ("", "its answer is written: head, Date, content", "into the out ring, in one piece", ["cy_proc", "cy_respond"]),
     ("", "the slot is emptied, for whoever comes next", "`Slot::release`: late calls for its tenant touch nothing", ["cy_world", "cy_slot"]),
     ("socket", "the socket takes bytes, as many as it can", "`Line::event` drops them from the out ring", ["cy_rings"]),

@@ -21,7 +21,7 @@ FOLDS = [
     ("calls", "its calls of the table"),
     ("answer_of", "its answer so far"),
 ]
-PARTS = ["in ring, out ring", "counts of bytes and requests", "the cause, the last moment", "stage of the request", "table of its head", "state and chart", "content so far"]
+PARTS = ["in ring, out ring", "counts, how far the body came", "the cause, the last moment", "stage of the request", "table of its head", "state and chart", "content so far"]
 
 
 def square(lines, x, y, kind, title, under):
