@@ -4,9 +4,6 @@
 use super::*;
 use cy_event::Reply;
 
-/// Of a body at most so many bytes are passed over.
-const SWALLOW: u64 = 4;
-
 /// A connector of one place, where of a body at most so many bytes are passed over.
 fn world_passing(alloc: Global, most: u64) -> Result<World, Fail> {
     let limits = Limits {
@@ -102,9 +99,15 @@ fn come_to(
 }
 
 /// That a row comes to what it says, whole and in single bytes, and that the same is written.
-fn expect_row(rt: &impl Abort, alloc: Global, steps: &str, wanted: &str) -> Result<(), Fail> {
-    let mut whole = world_passing(alloc, SWALLOW)?;
-    let mut single = world_passing(alloc, SWALLOW)?;
+fn expect_row(
+    rt: &impl Abort,
+    alloc: Global,
+    most: u64,
+    steps: &str,
+    wanted: &str,
+) -> Result<(), Fail> {
+    let mut whole = world_passing(alloc, most)?;
+    let mut single = world_passing(alloc, most)?;
     let got = come_to(rt, alloc, &mut whole, 1, steps, usize::MAX)?;
     let got_single = come_to(rt, alloc, &mut single, 1, steps, 1)?;
     let text = String::from_utf8_lossy(alloc, &got)?;
@@ -117,12 +120,19 @@ fn expect_row(rt: &impl Abort, alloc: Global, steps: &str, wanted: &str) -> Resu
     Ok(())
 }
 
-/// The same of each row of a table, behind this head.
-fn expect_rows(rt: &impl Abort, alloc: Global, head: &str, rows: &str) -> Result<(), Fail> {
+/// The same of each row of a table, behind this front of a head, where of a body at most so many
+/// bytes are passed over.
+fn expect_rows(
+    rt: &impl Abort,
+    alloc: Global,
+    most: u64,
+    head: &str,
+    rows: &str,
+) -> Result<(), Fail> {
     for row in rows.lines() {
         let (steps, wanted) = row.split_once(" => ").ok_or("a row without an answer")?;
         let steps = format!(in alloc; "in {head}{steps}")?;
-        expect_row(rt, alloc, steps.as_str(), wanted)?;
+        expect_row(rt, alloc, most, steps.as_str(), wanted)?;
     }
     Ok(())
 }
@@ -143,7 +153,7 @@ Transfer-Encoding: chunked~~; run; in 11111X; return => BadBody, 1 of 1: 400";
 
 #[test]
 fn so_much_is_passed_over(rt: HostRuntime) -> Result<(), Fail> {
-    expect_rows(&rt, rt.alloc(), POST, PASSED)
+    expect_rows(&rt, rt.alloc(), 4, POST, PASSED)
 }
 
 /// What is read, what isn't, and what comes behind.
@@ -155,11 +165,11 @@ Content-Length: 3~~abcGET /b HTTP/1.1~Host: a~~; run; return; run; return => ope
 Content-Length: 0~Expect: 100-continue~~; run; read 1; return => GotEnd, open, 1 of 1: 200
 Content-Length: 3~Expect: 100-continue~~; run; in abc; read 9; return => Got \"abc\", open, 1 of 1: 100 200
 Content-Length: 3~Expect:~~; run; in abc; read 9; return => Got \"abc\", open, 1 of 1: 200
-Content-Length: 3~Expect: other~~; in abc => open, 0 of 0: 417";
+Content-Length: 3~Expect: other~~; in abc => Refused, 0 of 0: 417";
 
 #[test]
 fn bodies_are_read_or_passed_over(rt: HostRuntime) -> Result<(), Fail> {
-    expect_rows(&rt, rt.alloc(), POST, READ)
+    expect_rows(&rt, rt.alloc(), 100, POST, READ)
 }
 
 /// No component serves the path, or the version is the former one.
@@ -172,7 +182,7 @@ POST /a HTTP/1.0~Content-Length: 3~Expect: 100-continue~~; run; in abc; read 9; 
 
 #[test]
 fn bodies_of_other_requests(rt: HostRuntime) -> Result<(), Fail> {
-    expect_rows(&rt, rt.alloc(), "", OTHERS)
+    expect_rows(&rt, rt.alloc(), 4, "", OTHERS)
 }
 
 /// A body with a part of each kind.
@@ -269,8 +279,8 @@ fn a_piece_is_taken_as_there_is_room(rt: HostRuntime) -> Result<(), Fail> {
     let mut world = world(alloc, 1)?;
     let head = "in POST /a HTTP/1.1~Host: a~Content-Length: 40000~~; run; return";
     let _come = come_to(&rt, alloc, &mut world, 1, head, usize::MAX)?;
-    for wanted in [16_384, 16_384, 7_232] {
-        let (event, bytes) = (Event::In, StepBytes::of(vec![in alloc; b'x'; 40_000]?));
+    for (size, wanted) in [(40_000, 16_384), (23_616, 16_384), (7_232, 7_232)] {
+        let (event, bytes) = (Event::In, StepBytes::of(vec![in alloc; b'x'; size]?));
         let step = Step::On {
             conn: 1,
             event,
