@@ -1,0 +1,2 @@
+--! What the tests of a connector cite.
+pub mod Courses
