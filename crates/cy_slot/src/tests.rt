@@ -3,7 +3,7 @@
 // so does what is wanted. Memory is ample.
 use super::*;
 use cy_bytes::Bytes;
-use cy_event::{Act, CloseCause, Event, Job, Limits, Reply, RequestHead};
+use cy_event::{Act, CloseCause, Event, GREATEST_READ, Job, Limits, Reply, RequestHead};
 use cy_latch::{Enter, LatchBook, Share};
 use cy_map::{Mapper, Rule};
 use cy_proc::Line;
@@ -127,6 +127,22 @@ fn give_back(slot: &mut Slot, tenancy: u64) -> Reply {
     slot.act(tenancy, 0, &Act::Return, b"", &mut [])
 }
 
+/// What a read of so many bytes is answered, and what stands then in a buffer of as many dashes.
+fn read(
+    rt: &impl Abort,
+    alloc: Global,
+    slot: &mut Slot,
+    tenancy: u64,
+    count: u32,
+) -> Result<Vec<u8>, Fail> {
+    assert!(rt; count <= GREATEST_READ);
+    let mut into = vec![in alloc; b'-'; count as usize]?;
+    let reply = slot.act(tenancy, 0, &Act::Read(count), b"", &mut into);
+    let mut text = format!(in alloc; "{reply:?} ")?.into_bytes();
+    text.extend_from_slice(&into)?;
+    Ok(text)
+}
+
 /// What a step is answered that is meant for this tenant: a word, and its text.
 fn reply(
     rt: &impl Abort,
@@ -229,6 +245,7 @@ fn asked(
             let kept = keep(alloc, slot, number, text.parse::<u8>()?)?;
             Ok(format!(in alloc; "{kept}")?.into_bytes())
         }
+        "read" => read(rt, alloc, slot, number, text.parse::<u32>()?),
         "lent" => lent(alloc, slot, number),
         "room" => Ok(format!(in alloc; "{}", in_room(slot, number))?.into_bytes()),
         "unsent" => Ok(format!(in alloc; "{}", unsent_len(slot, number))?.into_bytes()),
@@ -377,6 +394,7 @@ fn filled(alloc: Global, text: &str, with: &str) -> Result<String, Fail> {
 const SHUT: &str = "in # x => Ended
 run # => Ended
 write # x => Ended
+read # 3 => Ended ---
 return # => Ended
 keep # 7 => false
 lent # => false no query 0, 256 of 9

@@ -321,13 +321,7 @@ impl Place {
 
     /// The callback that runs acts. Where its request ends it leaves the slot, and its chart goes into these items. A read
     /// gives content to the front of `into`.
-    fn act(
-        &mut self,
-        act: &Act,
-        bytes: &[u8],
-        items: Vec<ChartItem>,
-        into: &mut [u8],
-    ) -> Reply
+    fn act(&mut self, act: &Act, bytes: &[u8], items: Vec<ChartItem>, into: &mut [u8]) -> Reply
         requires kept { is_over_at self.old.live.processor.stage ≡ false }
         requires room { HasRoom 1 self.old }
         requires within { IsWithinBytes act.now bytes.now }

@@ -187,12 +187,7 @@ impl Seat {
     /// # Errors
     ///
     /// Where memory ran out. Then nothing has changed.
-    pub fn take(
-        &mut self,
-        step: &Step,
-        into: &mut [u8],
-        terms: &Terms,
-    ) -> Result<Reply, NoMemory>
+    pub fn take(&mut self, step: &Step, into: &mut [u8], terms: &Terms) -> Result<Reply, NoMemory>
         requires own { IsOwn step.now }
         requires kept { is_over_at self.old.place.live.processor.stage ≡ false }
         requires guest { is_some self.old.place.who ≡ true }

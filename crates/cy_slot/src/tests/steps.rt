@@ -109,6 +109,34 @@ fn a_tenant_is_served_until_he_leaves(rt: HostRuntime) -> Result<(), Fail> {
     expect(&rt, alloc, new_desk(alloc)?, SERVED)
 }
 
+/// He reads what came of his body, into the front of what is handed in, and the rest of it is
+/// passed over: the next tenant finds nothing of it.
+const READ: &str = "bind 1 POST /a HTTP/1.1~Host: a~Content-Length: 9~~hello => bound 0
+read 0 3 => Ended ---
+open 0 => Done
+read 0 3 => NotActive ---
+run 0 => Begun(Service { part: 0 })
+read 0 3 => Got(3) hel
+read 0 4 => Got(2) lo--
+read 0 1 => Again -
+in 0  all => Taken(4)
+read 0 0 => Got(0) 
+read 0 2 => Got(2)  a
+return 0 => Done
+read 0 1 => Ended -
+release => 1
+bind 2 GET /b HTTP/1.1~Host: a~~ => bound 1
+open 1 => Done
+run 1 => Begun(Service { part: 7 })
+read 0 1 => Ended -
+read 1 1 => GotEnd -";
+
+#[test]
+fn a_tenant_reads_his_body(rt: HostRuntime) -> Result<(), Fail> {
+    let alloc = rt.alloc();
+    expect(&rt, alloc, new_desk(alloc)?, READ)
+}
+
 /// A head is refused, no component serves it, and its answer is the last.
 const OVER: &str = "bind 1 GET /a~~ => bound 0
 over => false

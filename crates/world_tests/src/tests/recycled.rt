@@ -232,7 +232,7 @@ fn many_connections_pass_through_two_slots(rt: HostRuntime) -> Result<(), Fail> 
     }
     assert_eq!(rt; world.counted(), 0);
 
-    // Of eight courses one has three heads and two have none: so there were as many tenants as
+    // Of the first eight courses one has three heads and two have none: so there were as many tenants as
     // connections.
     let one = tenants_before(&rt, alloc, &mut world, u64::from(PAIRS) * 2)?;
     let other = tenants_before(&rt, alloc, &mut world, u64::from(PAIRS) * 2 + 1)?;
