@@ -20,3 +20,8 @@ IsNext last (step.Admit c) = last < c
 IsNext last (step.On c e b) = 1 ≤ c
 IsNext last (step.Run c) = 1 ≤ c
 IsNext last (step.Act c a b) = (1 ≤ c) × IsWithinBytes a b
+
+-- the greatest number that is admitted with the step
+abbrev pub last_by : ℕ → Step → ℕ
+last_by last (step.Admit c) = c
+last_by last s = last

@@ -1,2 +1,1 @@
---! What the tests of a connector cite.
 pub mod Courses
