@@ -1,1 +1,1 @@
-mod Courses
+mod NextSteps

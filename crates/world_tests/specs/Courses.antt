@@ -1,5 +1,5 @@
 -- Which steps a connector can take one behind the other, as the tests of courses put them together.
-use Rattle.std.specs.Prelude.{◌≡◌, ◌≤◌, ◌<◌, ◌×◌, ⊥, ℕ, false, List, reverse}
+use Rattle.std.specs.Prelude.{◌≡◌, ◌≤◌, ◌<◌, ℕ, false, List, reverse}
 use Rattle.std.specs.List.{list_any}
 use Rattle.cy_event.specs.declared.steps.Step.{Step}
 use Rattle.cy_event.specs.declared.steps.Step.TheVariants as step

@@ -7,7 +7,7 @@
 // lines of a report say, behind the sign `=>`.
 ghost use Rattle.std.specs.Prelude.{◌≡◌, true};
 ghost use Rattle.cy_event.specs.declared.steps.Step.TheVariants as step;
-ghost use Rattle.world_tests.specs.Courses.{IsNext};
+ghost use Rattle.world_tests.specs.Courses.{IsNext, last_by};
 
 use super::report::quoted;
 use super::*;
@@ -60,6 +60,16 @@ fn is_next(step: &Step, last: u64) -> bool
     }
 }
 
+/// The greatest number that is admitted with a step, where it was this one before.
+fn last_by(step: &Step, last: u64) -> u64
+    ensures { result ≡ last_by last step.now }
+{
+    match step {
+        Step::Admit(number) => *number,
+        _ => last,
+    }
+}
+
 impl Steps {
     fn none(alloc: Global) -> Steps {
         Steps {
@@ -69,13 +79,11 @@ impl Steps {
     }
 
     /// One step more.
-    fn push(&mut self, rt: &impl Abort, step: Step) -> Result<(), Fail> {
-        let is_next = is_next(&step, self.last);
-        assert!(rt; is_next);
-        let last = match &step {
-            Step::Admit(number) => *number,
-            _ => self.last,
-        };
+    fn push(&mut self, step: Step) -> Result<(), Fail> {
+        if !is_next(&step, self.last) {
+            return Err(Fail::from("a step that no connector takes there"));
+        }
+        let last = last_by(&step, self.last);
         self.items.push(step)?;
         self.last = last;
         Ok(())
@@ -171,38 +179,33 @@ impl<'a> Course<'a> {
         }
     }
 
-    fn push(&mut self, rt: &impl Abort, step: Step, answer: Option<&'a str>) -> Result<(), Fail> {
-        self.steps.push(rt, step)?;
+    fn push(&mut self, step: Step, answer: Option<&'a str>) -> Result<(), Fail> {
+        self.steps.push(step)?;
         self.answers.push(answer)?;
         Ok(())
     }
 
     /// These bytes come in one piece.
-    fn push_piece(
-        &mut self,
-        rt: &impl Abort,
-        bytes: &[u8],
-        answer: Option<&'a str>,
-    ) -> Result<(), Fail> {
+    fn push_piece(&mut self, bytes: &[u8], answer: Option<&'a str>) -> Result<(), Fail> {
         let step = Step::On {
             conn: self.conn,
             event: Event::In,
             bytes: StepBytes::of(Vec::from_slice(self.alloc, bytes)?),
         };
-        self.push(rt, step, answer)
+        self.push(step, answer)
     }
 
     /// The input that waits comes now.
-    fn push_input(&mut self, rt: &impl Abort) -> Result<(), Fail> {
+    fn push_input(&mut self) -> Result<(), Fail> {
         let input = mem::replace(&mut self.input, Vec::new(self.alloc));
         if input.is_empty() {
             return Ok(());
         }
         match self.cut {
-            Cut::Whole => self.push_piece(rt, &input, None),
+            Cut::Whole => self.push_piece(&input, None),
             Cut::Singly => {
                 for byte in &input {
-                    self.push_piece(rt, &[*byte], None)?;
+                    self.push_piece(&[*byte], None)?;
                 }
                 Ok(())
             }
@@ -210,7 +213,7 @@ impl<'a> Course<'a> {
     }
 
     /// One part of the line more. Input without an answer is put together with what follows it.
-    fn push_part(&mut self, rt: &impl Abort, part: &'a str) -> Result<(), Fail> {
+    fn push_part(&mut self, part: &'a str) -> Result<(), Fail> {
         let (said, answer) = match part.split_once(" = ") {
             Some((said, answer)) => (said, Some(answer)),
             None => (part, answer_to(part)),
@@ -219,17 +222,17 @@ impl<'a> Course<'a> {
         match (input_of(self.alloc, word, text)?, answer) {
             (Some(input), None) => self.input.extend_from_slice(&input)?,
             (Some(input), answer) => {
-                self.push_input(rt)?;
-                self.push_piece(rt, &input, answer)?;
+                self.push_input()?;
+                self.push_piece(&input, answer)?;
             }
             (None, None) => return Err(Fail::from("a step without an answer")),
             (None, answer) => {
-                self.push_input(rt)?;
+                self.push_input()?;
                 if word == "admit" {
                     self.conn = self.conn.saturating_add(1);
                 }
                 let step = step_of(self.alloc, self.conn, said)?;
-                self.push(rt, step, answer)?;
+                self.push(step, answer)?;
             }
         }
         Ok(())
@@ -237,18 +240,13 @@ impl<'a> Course<'a> {
 }
 
 /// The steps of a line.
-fn course_of<'a>(
-    rt: &impl Abort,
-    alloc: Global,
-    cut: Cut,
-    parts: &'a str,
-) -> Result<Course<'a>, Fail> {
+fn course_of<'a>(alloc: Global, cut: Cut, parts: &'a str) -> Result<Course<'a>, Fail> {
     let mut course = Course::new(alloc, cut);
-    course.push_part(rt, "admit")?;
+    course.push_part("admit")?;
     for part in parts.split("; ") {
-        course.push_part(rt, part)?;
+        course.push_part(part)?;
     }
-    course.push_input(rt)?;
+    course.push_input()?;
     Ok(course)
 }
 
@@ -344,7 +342,7 @@ fn behind_lines(text: &str, count: usize) -> &str {
 pub(super) fn expect_row(rt: &impl Abort, alloc: Global, cut: Cut, row: &str) -> Result<(), Fail> {
     let (limit, rest) = row.split_once(": ").ok_or("a line without a limit")?;
     let (parts, outcomes) = rest.split_once(" => ").ok_or("a line without an outcome")?;
-    let course = course_of(rt, alloc, cut, parts)?;
+    let course = course_of(alloc, cut, parts)?;
     let report = course.steps.report(alloc, limit.parse::<u64>()?)?;
     let text = str::from_utf8(&report)?;
     expect_answers(rt, row, text, &course.answers)?;

@@ -1,5 +1,5 @@
 -- A step that may be the next one behind others can be taken with them.
-use Rattle.std.proofs.Common.{◌≡◌, ◌≢◌, ◌<◌, ◌||◌, ℕ, false, List, [], ◌∷◌, ◌++◌, reverse, refl, sym, subst, ◌∙◌, arith}
+use Rattle.std.proofs.Common.{◌≡◌, ◌≢◌, ◌<◌, ◌≤◌, ◌||◌, ℕ, false, List, [], ◌∷◌, ◌++◌, reverse, refl, sym, subst, ◌∙◌, arith}
 use Rattle.std.proofs.lemmas.Bool.{or_from}
 use Rattle.std.proofs.lemmas.List.{reverse-append}
 use Rattle.std.proofs.lemmas.List.Folds.{list_any-append}
@@ -12,7 +12,9 @@ use Rattle.world_tests.specs.Courses.{CanBeTaken, IsNext, last_by}
 
 may_follow : (last : ℕ) (s : Step) (w : List Step) → ((n : ℕ) → last < n → IsNewNumber n w) → IsNext last s → MayFollow s w
 may_follow last (step.At t) w new next = absurd next
-may_follow last (step.Admit c) w new next = (omega (arith, next), new c next)
+may_follow last (step.Admit c) w new next =
+    let from_1 : 1 ≤ c = omega (arith, next) in
+    (from_1, new c next)
 may_follow last (step.On c e b) w new next = next
 may_follow last (step.Run c) w new next = next
 may_follow last (step.Act c a b) w new next = next
@@ -21,8 +23,9 @@ greater_are_new : (last : ℕ) (s : Step) (w : List Step) → ((n : ℕ) → las
     → (n : ℕ) → last_by last s < n → IsNewNumber n (s ∷ w)
 greater_are_new last (step.At t) w new next n less = absurd next
 greater_are_new last (step.Admit c) w new next n less =
-    let above = omega (arith, next, less) in
-    ((λ (same : n ≡ c). omega (arith, same, less)), new n above)
+    let above : last < n = omega (arith, next, less) in
+    let other : n ≢ c = λ same. omega (arith, same, less) in
+    (other, new n above)
 greater_are_new last (step.On c e b) w new next n less = new n less
 greater_are_new last (step.Run c) w new next n less = new n less
 greater_are_new last (step.Act c a b) w new next n less = new n less
