@@ -1,7 +1,7 @@
 -- The steps can be taken with the one that is added.
-use Rattle.std.proofs.Common.{◌≡◌, true, false, ℕ, List, [], ◌∷◌, ◌++◌, refl, sym, subst}
+use Rattle.std.proofs.Common.{ℕ, List, sym, subst}
 use Rattle.cy_event.specs.declared.steps.Step.{Step}
-use Rattle.world_tests.specs.Courses.{CanBeTaken, IsNext, last_by}
+use Rattle.world_tests.specs.Courses.{CanBeTaken, last_by}
 use Rattle.world_tests.proofs.NextSteps.{one_more}
 use Rattle.world_tests.proofs.tests.course.Steps.push.Goals as goal
 
