@@ -153,6 +153,7 @@ fn a_connection_is_served_until_it_is_gone(rt: HostRuntime) -> Result<(), Fail> 
 }
 
 mod apart;
+mod course;
 mod cuts;
 mod limits;
 mod mixed;

@@ -54,7 +54,7 @@ chart 10 2 Run
 ";
 
 /// A text of a report, in which a tilde stands for the end of a line as it is quoted.
-fn quoted(alloc: Global, text: &str) -> Result<Vec<u8>, Fail> {
+pub(super) fn quoted(alloc: Global, text: &str) -> Result<Vec<u8>, Fail> {
     let mut bytes = Vec::new(alloc);
     for byte in text.as_bytes() {
         if *byte == b'~' {
