@@ -53,7 +53,7 @@ is_answered() {
 # rows that take as long a byte: those behind it take at most half as long again.
 measure_body() {
     local framing=$1 bytes=$2 piece=$3 most_ms=$4 place=$5
-    local status micros kib greatest_kib=0 times=() verdict="" sizes
+    local status micros kib greatest_kib=0 times=() verdict="" sizes steps
     script "$framing" "$bytes" "$piece" >"$room/input"
     for _ in 1 2 3 4 5; do
         read -r status micros kib < <(measure)
@@ -70,9 +70,10 @@ measure_body() {
     elif [ $((2 * micros * first_bytes)) -gt $((3 * first_micros * bytes)) ]; then
         verdict="$verdict  MISSED: longer a byte than the first"
     fi
-    # what is held beside script and report doesn't grow with the body
+    # what is held beside script and report, and the steps and replies that stand in them, doesn't grow with the body
     sizes=$(($(wc -c <"$room/input") + $(wc -c <"$room/written")))
-    [ "$greatest_kib" -lt $((beside_kib + 2 * sizes / 1024)) ] || verdict="$verdict  MISSED: memory"
+    steps=$(wc -l <"$room/input")
+    [ "$greatest_kib" -lt $((beside_kib + (2 * sizes + step_bytes * steps) / 1024)) ] || verdict="$verdict  MISSED: memory"
     [ -z "$verdict" ] || missed=1
     awk -v framing="$framing" -v bytes="$bytes" -v piece="$piece" -v micros="$micros" -v most="$most_ms" \
         -v kib="$greatest_kib" -v verdict="$verdict" -v script="$(wc -c <"$room/input")" \
@@ -83,8 +84,10 @@ measure_body() {
         }'
 }
 
-# As much memory as the program may take beside twice its script and its report, which grow by doubling.
+# As much memory as the program may take beside twice its script and its report, which grow by doubling, and that much for
+# each step and its reply as values.
 beside_kib=16384
+step_bytes=40
 
 printf '%-8s %9s %6s %9s %9s %7s %8s %10s %10s\n' framing bytes piece seconds 'ns a byte' wanted MiB 'script MiB' 'report MiB'
 for framing in length chunked; do
